@@ -1,0 +1,15 @@
+-- A fault: a refusal with the record and the field that it concerns.
+use mathlib.Core.Path.{_≡_}
+use Rattle.std.specs.declared.result.Result.{Result}
+use Rattle.std.specs.declared.result.Result.the-variants.{Ok, Err}
+use Rattle.faults.specs.declared.Refusal.{Refusal}
+use Rattle.faults.specs.declared.Fault.{Fault}
+
+-- the fault of a direct call: there is no record text, so record and field are 0
+abbrev pub direct : Refusal → Fault
+direct r = record { refusal = r; «record» = 0; field = 0 }
+
+-- a call that is granted where P holds, with Q of its value, and where P does not hold refuses directly with e
+abbrev pub Granted : {T : Type 0} → Result T Fault → Type 0 → (T → Type 0) → Refusal → Type 0
+Granted (Ok x) P Q e = P × Q x
+Granted (Err f) P Q e = (P → ⊥) × (f ≡ direct e)

@@ -1,0 +1,4 @@
+pub mod Millionths
+pub mod Offsets
+pub mod Knowledge
+pub mod Distributions
