@@ -22,6 +22,11 @@ abbrev pub check : Bool → Refusal → Option Refusal → Option Refusal
 check true e later = later
 check false e later = Some e
 
+-- the earlier refusal, and the later one where there is no earlier one
+abbrev pub first-of : Option Refusal → Option Refusal → Option Refusal
+first-of None later = later
+first-of (Some e) later = Some e
+
 -- a call that refuses directly where its checks say so, and else answers a value of which Q holds
 abbrev pub Answers-by : {T : Type 0} → Option Refusal → Result T Fault → (T → Type 0) → Type 0
 Answers-by None (Ok x) Q = Q x

@@ -1,1 +1,4 @@
 pub mod Limits
+pub mod Rules
+pub mod Requirements
+pub mod Making

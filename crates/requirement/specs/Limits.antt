@@ -8,9 +8,13 @@ use Rattle.faults.specs.declared.Refusal.{Refusal}
 use Rattle.faults.specs.declared.Refusal.the-variants.{OutOfRange, NoLimit, LimitsNotAscending}
 use Rattle.faults.specs.Faults.{check}
 
+-- x lies from low to high
+abbrev pub from-to : ℤ → ℤ → ℤ → Bool
+from-to low high x = leZ low x && leZ x high
+
 -- readings and limits lie from -1,000,000 to 1,000,000 steps
 abbrev pub in-reach : ℤ → Bool
-in-reach x = leZ (negℤ (pos 1000000)) x && leZ x (pos 1000000)
+in-reach x = from-to (negℤ (pos 1000000)) (pos 1000000) x
 
 abbrev pub limit-in-reach : Option ℤ → Bool
 limit-in-reach None = true
@@ -29,8 +33,8 @@ ascending (Some l) None = true
 ascending (Some l) (Some u) = ltZ l u
 
 -- what two limits are refused for, in this order
-abbrev pub limits-refusal : Option ℤ → Option ℤ → Option Refusal
-limits-refusal l u =
+abbrev pub tolerance-refusal : Option ℤ → Option ℤ → Option Refusal
+tolerance-refusal l u =
     check (limit-in-reach l && limit-in-reach u) OutOfRange (check (some-limit l u) NoLimit (check (ascending l u) LimitsNotAscending None))
 
 -- x is not below the lower limit, nor above the upper one: the limits belong to the interval

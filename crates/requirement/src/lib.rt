@@ -1,6 +1,14 @@
-// What is required of a characteristic.
+// What is required of a characteristic: tolerance limits, a decision rule and a mode.
+mod requirements;
+mod rows;
+mod rules;
 mod tolerance;
 
+pub use requirements::Requirement;
+pub use rows::RequirementRow;
+pub use rules::Mode;
+pub use rules::Rule;
+pub use rules::names_rule;
 pub use tolerance::Tolerance;
 pub use tolerance::methods::REACH;
 pub use tolerance::methods::in_reach;

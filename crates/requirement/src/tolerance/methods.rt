@@ -1,7 +1,7 @@
 // Making a tolerance interval and asking for its limits.
 ghost use mathlib.Core.Path.{_≡_};
 ghost use Rattle.faults.specs.Faults.{Answers-by};
-ghost use Rattle.requirement.specs.Limits.{in-reach, limit-in-reach, limits-refusal, within};
+ghost use Rattle.requirement.specs.Limits.{in-reach, limit-in-reach, tolerance-refusal, within};
 use super::Tolerance;
 use faults::Fault;
 use faults::Refusal;
@@ -16,7 +16,7 @@ pub fn in_reach(value: i64) -> bool
     -REACH <= value && value <= REACH
 }
 
-fn limit_in_reach(limit: Option<i64>) -> bool
+pub(crate) fn limit_in_reach(limit: Option<i64>) -> bool
     ensures { λ r. ⌜ r ≡ limit-in-reach limit ⌝ }
 {
     match limit {
@@ -28,7 +28,7 @@ fn limit_in_reach(limit: Option<i64>) -> bool
 impl Tolerance {
     // The interval with these limits.
     pub fn new(lower: Option<i64>, upper: Option<i64>) -> Result<Self, Fault>
-        ensures { λ r. ⌜ Answers-by (limits-refusal lower upper) r (λ t. (t .lower ≡ lower) × (t .upper ≡ upper)) ⌝ }
+        ensures { λ r. ⌜ Answers-by (tolerance-refusal lower upper) r (λ t. (t .lower ≡ lower) × (t .upper ≡ upper)) ⌝ }
     {
         if !limit_in_reach(lower) || !limit_in_reach(upper) {
             return Err(Fault::direct(Refusal::OutOfRange));
