@@ -3,7 +3,7 @@ use mathlib.Core.Bool.{Bool, _&&_}
 use lib.IntN.{ℤ, pos}
 use Rattle.std.specs.declared.option.Option.{Option}
 use Rattle.requirement.specs.Limits.{from-to}
-use Rattle.requirement.specs.Rules.{fits-limits, fits-mode}
+use Rattle.requirement.specs.Rules.{numbers-fit, fits-limits, fits-mode}
 use Rattle.requirement.specs.declared.rules.Rule.{Rule}
 use Rattle.requirement.specs.declared.rules.Mode.{Mode}
 
@@ -14,6 +14,6 @@ is-class x = from-to (pos 1) (pos 9) x
 abbrev pub is-characteristic : ℤ → Bool
 is-characteristic x = from-to (pos 1) (pos 20) x
 
--- a rule, its limits and its mode go together
+-- a rule, its numbers, the limits and the mode go together
 abbrev pub together : Rule → Option ℤ → Option ℤ → Mode → Bool
-together rule l u mode = fits-limits rule l u && fits-mode rule mode
+together rule l u mode = numbers-fit rule && (fits-limits rule l u && fits-mode rule mode)

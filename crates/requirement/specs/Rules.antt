@@ -36,13 +36,20 @@ nought x = from-to (pos 0) (pos 0) x
 abbrev pub is-share : ℤ → Bool
 is-share x = from-to (pos 0) (pos 500000) x
 
--- the rule that a letter and two numbers make, if the numbers are such as the rule takes
+-- the rule that a letter and two numbers make; a number that the rule has no use for is 0
 abbrev pub rule-of : ℕ → ℤ → ℤ → Option Rule
 rule-of c first second =
     cond (eqb c letter-S && (nought first && nought second)) (Some Simple)
-    (cond (eqb c letter-G && (from-to (negℤ (pos 100000)) (pos 100000) first && nought second)) (Some (Guard first))
-    (cond (eqb c letter-M && (from-to (negℤ (pos 200)) (pos 200) first && nought second)) (Some (Multiple first))
+    (cond (eqb c letter-G && nought second) (Some (Guard first))
+    (cond (eqb c letter-M && nought second) (Some (Multiple first))
     (cond (eqb c letter-P && (is-share first && is-share second)) (Some (Shares (natAbs first) (natAbs second))) None)))
+
+-- the numbers are such as the rule takes
+abbrev pub numbers-fit : Rule → Bool
+numbers-fit Simple = true
+numbers-fit (Guard w) = from-to (negℤ (pos 100000)) (pos 100000) w
+numbers-fit (Multiple r) = from-to (negℤ (pos 200)) (pos 200) r
+numbers-fit (Shares lower upper) = is-share (pos lower) && is-share (pos upper)
 
 -- an absent limit has no share of the risk
 abbrev pub fits-limits : Rule → Option ℤ → Option ℤ → Bool

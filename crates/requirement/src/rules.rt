@@ -1,6 +1,6 @@
 // Decision rules and modes.
 ghost use mathlib.Core.Path.{_≡_};
-ghost use Rattle.requirement.specs.Rules.{rule-of, mode-of, known-letter, fits-limits, fits-mode};
+ghost use Rattle.requirement.specs.Rules.{rule-of, mode-of, known-letter, is-share, numbers-fit, fits-limits, fits-mode};
 use crate::Tolerance;
 
 // How acceptance limits come from tolerance limits. Each case holds what its rule needs.
@@ -33,19 +33,39 @@ pub fn names_rule(letter: char) -> bool
     }
 }
 
+// Whether a number can be a share of the risk, in millionths.
+fn is_share(value: i64) -> bool
+    ensures { λ r. ⌜ r ≡ is-share value ⌝ }
+{
+    0 <= value && value <= 500_000
+}
+
 impl Rule {
-    // The rule that the letter names, if the two numbers are such as it takes.
+    // The rule that the letter names, with its numbers; the second is 0 unless the rule has two.
     pub fn from_letter(letter: char, first: i64, second: i64) -> Option<Self>
         ensures { λ r. ⌜ r ≡ rule-of letter first second ⌝ }
     {
         match letter {
             'S' if first == 0 && second == 0 => Some(Rule::Simple),
-            'G' if -100_000 <= first && first <= 100_000 && second == 0 => Some(Rule::Guard(first)),
-            'M' if -200 <= first && first <= 200 && second == 0 => Some(Rule::Multiple(first)),
-            'P' if 0 <= first && first <= 500_000 && 0 <= second && second <= 500_000 => {
-                Some(Rule::Shares(first as u32, second as u32))
-            }
+            'G' if second == 0 => Some(Rule::Guard(first)),
+            'M' if second == 0 => Some(Rule::Multiple(first)),
+            'P' if is_share(first) && is_share(second) => Some(Rule::Shares(
+                first as u32,
+                second as u32,
+            )),
             _ => None,
+        }
+    }
+
+    // Whether the numbers are such as the rule takes.
+    pub fn numbers_fit(self) -> bool
+        ensures { λ r. ⌜ r ≡ numbers-fit self ⌝ }
+    {
+        match self {
+            Rule::Simple => true,
+            Rule::Guard(width) => -100_000 <= width && width <= 100_000,
+            Rule::Multiple(hundredths) => -200 <= hundredths && hundredths <= 200,
+            Rule::Shares(lower, upper) => is_share(i64::from(lower)) && is_share(i64::from(upper)),
         }
     }
 

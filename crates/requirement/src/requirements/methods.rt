@@ -57,7 +57,8 @@ fn suited_rule(row: &RequirementRow, tolerance: &Tolerance, mode: Mode) -> Resul
     ensures { λ r. ⌜ Answers-by (suit-refusal (now (row .entry))) r (λ x. (Some x ≡ rule-of (now (row .entry) .letter) (now (row .entry) .first) (now (row .entry) .second)) × (together x (now (row .entry) .lower) (now (row .entry) .upper) mode ≡ true)) ⌝ }
 {
     match Rule::from_letter(row.letter, row.first, row.second) {
-        Some(rule) if rule.fits_limits(tolerance) && rule.fits_mode(mode) => Ok(rule),
+        Some(rule) if rule.numbers_fit() && rule.fits_limits(tolerance) && rule.fits_mode(mode) =>
+            Ok(rule),
         _ => Err(Fault::direct(Refusal::AgainstRule)),
     }
 }
