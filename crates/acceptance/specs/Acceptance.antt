@@ -7,13 +7,13 @@ use Rattle.std.specs.Options.{isSome, mapped}
 use Rattle.std.specs.declared.option.Option.{Option}
 use Rattle.std.specs.declared.option.Option.the-variants.{None, Some}
 use Rattle.faults.specs.declared.Refusal.{Refusal}
-use Rattle.faults.specs.declared.Refusal.the-variants.{OutOfRange, NoOffset, NothingAcceptable}
-use Rattle.faults.specs.Faults.{check}
+use Rattle.faults.specs.declared.Refusal.the-variants.{NoOffset, NothingAcceptable}
+use Rattle.faults.specs.Faults.{check, first-of}
 use Rattle.knowledge.specs.Knowledge.{Answers}
 use Rattle.requirement.specs.declared.rules.Rule.{Rule}
 use Rattle.requirement.specs.declared.rules.Rule.the-variants.{Simple, Guard, Multiple, Shares}
 use Rattle.requirement.specs.declared.requirements.Requirement.{Requirement}
-use Rattle.acceptance.specs.Guard.{is-expanded, width-of}
+use Rattle.acceptance.specs.Guard.{width-of, width-refusal}
 use Rattle.acceptance.specs.Search.{least-offset, greatest-offset}
 use Rattle.acceptance.specs.declared.bounds.Acceptance.{Acceptance}
 use Rattle.acceptance.specs.declared.search.Side.{Side}
@@ -55,7 +55,9 @@ abbrev pub uncrossed : Option Acceptance → Bool
 uncrossed None = true
 uncrossed (Some a) = in-order (a .lower) (a .upper)
 
--- what acceptance limits are refused for, in this order
+-- what acceptance limits are refused for, in this order: the expanded uncertainty, no such offset, nothing between them
+abbrev pub acceptance-refusal : Option Acceptance → Option Refusal
+acceptance-refusal a = check (isSome a) NoOffset (check (uncrossed a) NothingAcceptable None)
+
 abbrev pub limits-refusal : Requirement → ℤ → Answers → Option Refusal
-limits-refusal q expanded k =
-    check (is-expanded expanded) OutOfRange (check (isSome (acceptance q expanded k)) NoOffset (check (uncrossed (acceptance q expanded k)) NothingAcceptable None))
+limits-refusal q expanded k = first-of (width-refusal expanded) (acceptance-refusal (acceptance q expanded k))

@@ -3,6 +3,11 @@ use mathlib.Core.Bool.{Bool}
 use Prim.Native.Nat.{suc}
 use lib.IntN.{ℤ, pos, negsuc, negℤ, _+ℤ_, _*ℤ_}
 use lib.Signed.{_≤ℤ_, _<ℤ_}
+use Rattle.std.specs.declared.option.Option.{Option}
+use Rattle.std.specs.declared.option.Option.the-variants.{None}
+use Rattle.faults.specs.declared.Refusal.{Refusal}
+use Rattle.faults.specs.declared.Refusal.the-variants.{OutOfRange}
+use Rattle.faults.specs.Faults.{check}
 use Rattle.knowledge.specs.Millionths.{rounded-down, rounded-up}
 use Rattle.requirement.specs.Limits.{from-to}
 use Rattle.requirement.specs.declared.rules.Rule.{Rule}
@@ -28,3 +33,7 @@ width-of Simple expanded = pos 0
 width-of (Guard w) expanded = w
 width-of (Multiple r) expanded = hundredths-up (r *ℤ expanded)
 width-of (Shares lower upper) expanded = pos 0
+
+-- a width is refused only for an expanded uncertainty out of range
+abbrev pub width-refusal : ℤ → Option Refusal
+width-refusal expanded = check (is-expanded expanded) OutOfRange None

@@ -2,8 +2,11 @@
 ghost use mathlib.Core.Bool.{true};
 ghost use mathlib.Core.Path.{_≡_};
 ghost use lib.IntN.{pos, negℤ, _*ℤ_};
+ghost use Rattle.faults.specs.Faults.{Answers-by};
 ghost use Rattle.requirement.specs.Limits.{from-to};
-ghost use Rattle.acceptance.specs.Guard.{is-expanded, hundredths-up, Least-hundredth, width-of};
+ghost use Rattle.acceptance.specs.Guard.{is-expanded, hundredths-up, Least-hundredth, width-of, width-refusal};
+use faults::Fault;
+use faults::Refusal;
 use requirement::Requirement;
 use requirement::Rule;
 
@@ -34,7 +37,7 @@ fn multiple_width(hundredths: i64, expanded: i64) -> i64
 }
 
 // How far the acceptance limits lie inside the tolerance limits; negative where they lie outside.
-pub(crate) fn guard_width(requirement: &Requirement, expanded: i64) -> i64
+pub(crate) fn signed_width(requirement: &Requirement, expanded: i64) -> i64
     requires { ⌜ is-expanded expanded ≡ true ⌝ }
     ensures { λ r. ⌜ (r ≡ width-of (now (requirement .entry) .rule) expanded) × (from-to (negℤ (pos 2000000)) (pos 2000000) r ≡ true) ⌝ }
 {
@@ -44,4 +47,14 @@ pub(crate) fn guard_width(requirement: &Requirement, expanded: i64) -> i64
         Rule::Multiple(hundredths) => multiple_width(hundredths, expanded),
         Rule::Shares(_, _) => 0,
     }
+}
+
+// The width of the guard band; shares have none.
+pub fn guard_width(requirement: &Requirement, expanded: i64) -> Result<i64, Fault>
+    ensures { λ r. ⌜ Answers-by (width-refusal expanded) r (λ w. (w ≡ width-of (now (requirement .entry) .rule) expanded) × (from-to (negℤ (pos 2000000)) (pos 2000000) w ≡ true)) ⌝ }
+{
+    if !is_expanded(expanded) {
+        return Err(Fault::direct(Refusal::OutOfRange));
+    }
+    Ok(signed_width(requirement, expanded))
 }

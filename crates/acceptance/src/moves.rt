@@ -10,8 +10,8 @@ ghost use Rattle.requirement.specs.Limits.{from-to, limit-in-reach};
 ghost use Rattle.acceptance.specs.Guard.{is-expanded};
 ghost use Rattle.acceptance.specs.Acceptance.{guarded, share-limit, both-limits, acceptance, limits-refusal};
 use crate::bounds::Acceptance;
-use crate::guard::guard_width;
 use crate::guard::is_expanded;
+use crate::guard::signed_width;
 use crate::search::Side;
 use crate::search::first_place;
 use crate::search::offset_at;
@@ -23,7 +23,7 @@ use requirement::Rule;
 use requirement::Tolerance;
 
 // A limit moved up, if it stands.
-pub(crate) fn raised(limit: Option<i64>, by: i64) -> Option<i64>
+fn raised(limit: Option<i64>, by: i64) -> Option<i64>
     requires { ⌜ limit-in-reach limit ≡ true ⌝ ∗ ⌜ from-to (negℤ (pos 2000000)) (pos 2000000) by ≡ true ⌝ }
     ensures { λ r. ⌜ r ≡ mapped (λ x. x +ℤ by) limit ⌝ }
 {
@@ -34,7 +34,7 @@ pub(crate) fn raised(limit: Option<i64>, by: i64) -> Option<i64>
 }
 
 // A limit moved down, if it stands.
-pub(crate) fn lowered(limit: Option<i64>, by: i64) -> Option<i64>
+fn lowered(limit: Option<i64>, by: i64) -> Option<i64>
     requires { ⌜ limit-in-reach limit ≡ true ⌝ ∗ ⌜ from-to (negℤ (pos 2000000)) (pos 2000000) by ≡ true ⌝ }
     ensures { λ r. ⌜ r ≡ mapped (λ x. x -ℤ by) limit ⌝ }
 {
@@ -101,7 +101,7 @@ fn by_rule<K: Knowledge>(
     let tolerance = requirement.tolerance();
     match requirement.rule() {
         Rule::Shares(lower, upper) => by_shares(&tolerance, lower, upper, knowledge),
-        _ => Some(moved_inwards(&tolerance, guard_width(requirement, expanded))),
+        _ => Some(moved_inwards(&tolerance, signed_width(requirement, expanded))),
     }
 }
 

@@ -1,6 +1,8 @@
 -- A call's answer after one of its checks.
 use mathlib.Core.Bool.{Bool, true, false}
 use mathlib.Core.Path.{_≡_, refl, sym, subst}
+use Prim.Native.Nat.{ℕ}
+use native.Mathlib.Omega.{arith}
 use Rattle.std.specs.declared.option.Option.{Option}
 use Rattle.std.specs.declared.option.Option.the-variants.{None, Some}
 use Rattle.std.specs.declared.result.Result.{Result}
@@ -17,6 +19,14 @@ module _ {T : Type 0} (Q : T → Type 0) (b : Bool) (e : Refusal) (later : Optio
   -- where it fails, the call refuses with it
   pub failed : b ≡ false → Answers-by (check b e later) (Err (direct e)) Q
   failed h = subst (λ t. Answers-by (check t e later) (Err (direct e)) Q) (sym h) refl
+
+some-none : (e : Refusal) → Some e ≡ None → ⊥
+some-none e h = let z : _≡_ {A = ℕ} 0 1 = cc in omega arith
+
+-- a check that does not refuse has passed
+pub check-passed : (b : Bool) (e : Refusal) (later : Option Refusal) → check b e later ≡ None → b ≡ true
+check-passed true e later h = refl
+check-passed false e later h = absurd (some-none e h)
 
 -- an answer says that no check refused
 pub no-refusal : {T : Type 0} (P : T → Type 0) (o : Option Refusal) (x : T) → Answers-by o (Ok x) P → o ≡ None

@@ -25,7 +25,7 @@ difference : (p q r s m n : ℕ) → p * m ≤ n * r → n * s ≤ q * m → (p 
 difference p q r s m n up low = omega (arith, mul-comm (p - q) m, mul-sub m p q, mul-sub n r s, mul-comm m p, mul-comm m q)
 
 -- a limit less a reading is an offset
-offset-of : (l y : ℤ) → in-reach l ≡ true → in-reach y ≡ true → Offset (l -ℤ y)
+pub offset-of : (l y : ℤ) → in-reach l ≡ true → in-reach y ≡ true → Offset (l -ℤ y)
 offset-of l y hl hy =
     let a = reach-out l hl in
     let b = reach-out y hy in

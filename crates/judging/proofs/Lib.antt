@@ -1,1 +1,3 @@
 mod BracketHolds
+mod SharesDecide
+mod Order

@@ -10,7 +10,7 @@ use Rattle.knowledge.specs.Millionths.{million}
 use Rattle.knowledge.specs.Knowledge.{Answers}
 use Rattle.requirement.specs.Limits.{in-reach}
 use Rattle.requirement.specs.declared.tolerance.Tolerance.{Tolerance}
-use Rattle.judging.specs.declared.brackets.Bracket.{Bracket}
+use Rattle.judging.specs.declared.answers.Bracket.{Bracket}
 
 -- a reading is refused only for lying out of range
 abbrev pub reading-refusal : ℤ → Option Refusal

@@ -1,2 +1,3 @@
 pub mod Brackets
+pub mod Verdicts
 pub mod Guarantee

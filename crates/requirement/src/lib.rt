@@ -12,3 +12,4 @@ pub use rules::names_rule;
 pub use tolerance::Tolerance;
 pub use tolerance::methods::REACH;
 pub use tolerance::methods::in_reach;
+pub use tolerance::methods::within;

@@ -9,6 +9,21 @@ use faults::Refusal;
 // Readings and tolerance limits lie at most this many steps from zero.
 pub const REACH: i64 = 1_000_000;
 
+// Whether a value is not below the lower limit nor above the upper one, as far as these stand.
+pub fn within(lower: Option<i64>, upper: Option<i64>, value: i64) -> bool
+    ensures { λ r. ⌜ r ≡ within lower upper value ⌝ }
+{
+    let not_below = match lower {
+        Some(limit) => limit <= value,
+        None => true,
+    };
+    let not_above = match upper {
+        Some(limit) => value <= limit,
+        None => true,
+    };
+    not_below && not_above
+}
+
 // Whether a reading or a limit lies in the range that the engine covers.
 pub fn in_reach(value: i64) -> bool
     ensures { λ r. ⌜ r ≡ in-reach value ⌝ }
@@ -56,14 +71,6 @@ impl Tolerance {
     pub fn holds(&self, value: i64) -> bool
         ensures { λ r. ⌜ r ≡ within (now (self .entry) .lower) (now (self .entry) .upper) value ⌝ }
     {
-        let low_enough = match self.upper {
-            Some(u) => value <= u,
-            None => true,
-        };
-        let high_enough = match self.lower {
-            Some(l) => l <= value,
-            None => true,
-        };
-        low_enough && high_enough
+        within(self.lower, self.upper, value)
     }
 }

@@ -9,7 +9,7 @@ use Rattle.requirement.specs.Limits.{from-to}
 use Rattle.requirement.proofs.Reach.{range-out, range-in, guard-of, multiple-of}
 use Rattle.acceptance.specs.Guard.{hundredths-up, width-of}
 use Rattle.acceptance.proofs.Widths.{product-within, width-within}
-use Rattle.acceptance.proofs.guard.guard_width.Needs as need
+use Rattle.acceptance.proofs.guard.signed_width.Needs as need
 
 pub multiple-width-requires : need.multiple-width-requires
 multiple-width-requires c κs =
