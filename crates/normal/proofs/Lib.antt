@@ -1,0 +1,4 @@
+mod Values
+mod Heights
+mod Mirror
+mod Halves

@@ -1,0 +1,37 @@
+-- What the normal kind answers.
+use mathlib.Core.Bool.{cond}
+use Prim.Native.Nat.{ℕ, zero, suc, _+_, _-_, _*_, _/_, _%_, min, max}
+use lib.Dec.{ltb}
+use lib.IntN.{ℤ, pos, negsuc}
+use Rattle.knowledge.specs.Millionths.{million, rounded-down, rounded-up}
+use Rattle.knowledge.specs.Knowledge.{Answers}
+use Rattle.normal.specs.Table.{value, gap}
+
+-- n steps in tenths of the standard uncertainty s: the whole tenths, and what is left over, in parts of which s make a tenth
+abbrev pub tenths : ℕ → ℕ → ℕ
+tenths s n = 10 * n / s
+
+abbrev pub left-over : ℕ → ℕ → ℕ
+left-over s n = 10 * n % s
+
+-- the height of the table's chord n steps above the reading, in millionths over s
+abbrev pub height : ℕ → ℕ → ℕ
+height s n = 10 * (value (tenths s n) * s + gap (tenths s n) * left-over s n)
+
+-- within four standard uncertainties the floor is the chord rounded down, less 5, and at least one half; from there on it stays
+abbrev pub floor-above : ℕ → ℕ → ℕ
+floor-above s n = cond (ltb (tenths s n) 40) (max 500000 (rounded-down (height s n) s - 5)) 999965
+
+-- the ceiling is the chord rounded up, plus 308, and at most one; from four standard uncertainties on it is one
+abbrev pub ceiling-above : ℕ → ℕ → ℕ
+ceiling-above s n = cond (ltb (tenths s n) 40) (min million (rounded-up (height s n) s + 308)) million
+
+-- one half at the reading, f above it, and below it what g leaves of one at the mirrored offset
+abbrev pub mirrored : (ℕ → ℕ) → (ℕ → ℕ) → ℤ → ℕ
+mirrored f g (pos zero) = 500000
+mirrored f g (pos (suc n)) = f (suc n)
+mirrored f g (negsuc n) = million - g (suc n)
+
+-- standard uncertainty s: each end is the other's mirror below the reading
+abbrev pub normal : ℕ → Answers
+normal s = record { floor = mirrored (floor-above s) (ceiling-above s); ceiling = mirrored (ceiling-above s) (floor-above s); width = 314 }
