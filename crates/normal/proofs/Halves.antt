@@ -1,19 +1,22 @@
 -- Floor and ceiling above the reading: ordered, rising, narrow, and settled from four standard uncertainties on.
 use mathlib.Core.Bool.{cond}
 use mathlib.Core.Logic.{_⊎_, inl, inr, ⊎-elim}
-use mathlib.Core.Path.{_≡_}
+use mathlib.Core.Path.{_≡_, sym}
 use Prim.Native.Nat.{ℕ, _+_, _-_, _*_, _≤_, _<_, min, max}
 use native.Mathlib.Nat.{mul-le-mul-right}
 use native.Mathlib.Omega.{arith}
 use lib.Dec.{ltb}
+use lib.IntN.{ℤ, pos, natAbs}
+use lib.Signed.{_<ℤ_}
 use Rattle.std.proofs.shelf.Bits.{le-div}
 use Rattle.std.proofs.shelf.Tests.{cases-lt, cond-true, cond-false, lt-ltb, le-ltb}
 use Rattle.knowledge.specs.Millionths.{million, rounded-down, rounded-up}
+use Rattle.knowledge.specs.Offsets.{nearest}
 use Rattle.knowledge.proofs.Rounding.{down-rises, up-above, up-near, up-rises, up-least}
 use Rattle.normal.specs.declared.Normal.{Normal}
-use Rattle.normal.specs.Normal.{tenths, height, floor-above, ceiling-above}
+use Rattle.normal.specs.Normal.{tenths, height, floor-above, ceiling-above, normal}
 use Rattle.normal.proofs.Heights.{not-low as low, not-high as high, rises}
-use Rattle.normal.proofs.Mirror.{Upper}
+use Rattle.normal.proofs.Mirror.{Upper, answered-above, answered-below}
 
 -- within four standard uncertainties
 pub record Near (s n : ℕ) : Type 0 where
@@ -107,3 +110,18 @@ ceiling-upper s some le =
       climbs = ceiling-climbs s some;
       settles = λ m n far-off far-off′. omega (arith, farthest s m some le far-off, farthest s n some le far-off′);
     }
+
+-- the normal kind's answers at an offset, from the distance of its nearest one
+pub above-reading : (k : Normal) (x : ℤ) → pos 0 <ℤ nearest x → (floor-above (k .«standard_uncertainty») (natAbs (nearest x)) ≡ normal (k .«standard_uncertainty») .floor x) × (ceiling-above (k .«standard_uncertainty») (natAbs (nearest x)) ≡ normal (k .«standard_uncertainty») .ceiling x)
+above-reading k x positive =
+    let s = k .«standard_uncertainty» in
+    let lower = floor-upper s (k .some) (k .bounded) in
+    let upper = ceiling-upper s (k .some) (k .bounded) in
+    (sym (answered-above (floor-above s) (ceiling-above s) lower upper x positive), sym (answered-above (ceiling-above s) (floor-above s) upper lower x positive))
+
+pub below-reading : (k : Normal) (x : ℤ) → nearest x <ℤ pos 0 → (million - ceiling-above (k .«standard_uncertainty») (natAbs (nearest x)) ≡ normal (k .«standard_uncertainty») .floor x) × (million - floor-above (k .«standard_uncertainty») (natAbs (nearest x)) ≡ normal (k .«standard_uncertainty») .ceiling x)
+below-reading k x negative =
+    let s = k .«standard_uncertainty» in
+    let lower = floor-upper s (k .some) (k .bounded) in
+    let upper = ceiling-upper s (k .some) (k .bounded) in
+    (sym (answered-below (floor-above s) (ceiling-above s) lower upper x negative), sym (answered-below (ceiling-above s) (floor-above s) upper lower x negative))

@@ -2,12 +2,13 @@
 mod table;
 
 ghost use mathlib.Core.Path.{_≡_};
-ghost use Prim.Native.Nat.{_≤_, _<_};
+ghost use Prim.Native.Nat.{_-_, _≤_, _<_};
 ghost use lib.IntN.{pos};
 ghost use lib.Signed.{_≤ℤ_};
 ghost use Rattle.std.specs.Options.{Cases};
 ghost use Rattle.faults.specs.Faults.{Granted};
 ghost use Rattle.faults.specs.declared.Refusal.the-variants.{OutOfRange};
+ghost use Rattle.knowledge.specs.Millionths.{million};
 ghost use Rattle.normal.specs.Normal.{tenths, height, floor-above, ceiling-above, normal};
 use faults::Fault;
 use faults::Refusal;
@@ -91,11 +92,19 @@ pub impl Knowledge for Normal as NormalKnowledge {
         if offset > 0 {
             (floor, ceiling)
         } else {
-            (MILLION - ceiling, MILLION - floor)
+            mirrored(floor, ceiling)
         }
     }
 
     fn width(&self) -> u32 {
         314
     }
+}
+
+// Floor and ceiling at an offset from those at its mirror image about the reading.
+fn mirrored(floor: u32, ceiling: u32) -> (u32, u32)
+    requires { ⌜ (floor ≤ 1000000) × (ceiling ≤ 1000000) ⌝ }
+    ensures { λ r. ⌜ (r .0 ≡ million - ceiling) × (r .1 ≡ million - floor) ⌝ }
+{
+    (MILLION - ceiling, MILLION - floor)
 }

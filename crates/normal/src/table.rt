@@ -1,7 +1,8 @@
 // The table of the standard normal distribution function, and the chords between its values.
+ghost use mathlib.Core.Path.{_≡_};
 ghost use Prim.Native.Nat.{_≤_};
 ghost use Rattle.std.specs.Options.{Cases};
-ghost use Rattle.normal.specs.Table.{Chord-over};
+ghost use Rattle.normal.specs.Table.{value, Chord-over};
 
 // The tenths of a standard uncertainty that the table spans.
 const TENTHS: u64 = 40;
@@ -65,10 +66,17 @@ pub fn chord_over(tenth: u64) -> Option<Chord>
     if tenth >= TENTHS {
         return None;
     }
-    let from = tenth as usize;
-    let start = TABLE[from];
+    let start = value_at(tenth);
     Some(Chord {
         start,
-        rise: TABLE[from + 1] - start,
+        rise: value_at(tenth + 1) - start,
     })
+}
+
+// The value at this many tenths.
+fn value_at(tenth: u64) -> u32
+    requires { ⌜ tenth ≤ 40 ⌝ }
+    ensures { λ r. ⌜ r ≡ value tenth ⌝ }
+{
+    TABLE[tenth as usize]
 }

@@ -1,14 +1,15 @@
-use native.Mathlib.Omega.{arith}
-use mathlib.Core.Path.{refl}
+use mathlib.Core.Path.{_≡_}
 use Prim.Native.Nat.{_+_, _<_}
-use Rattle.normal.proofs.Values.{next, climbs, shrinks}
+use native.Mathlib.Omega.{arith}
+use Rattle.normal.proofs.Values.{next, shrinks}
 use Rattle.normal.proofs.table.chord_over.Needs as need
 
 pub sub-result : need.sub-result
-sub-result c = omega (arith, climbs (c .args .tenth) (c .args .tenth + 1) (omega arith) (omega arith))
+sub-result c = omega (arith, next (c .args .tenth) (omega arith))
 
 pub returns : need.returns
 returns c =
     let k = c .args .tenth in
     let lt : k < 40 = omega arith in
-    record { within = lt; starts = refl; ends = next k lt; no-steeper = λ j le. shrinks j k le (omega arith) }
+    let step = next k lt in
+    record { within = lt; starts = c .value-at-start .ensures; ends = omega arith; no-steeper = λ j le. omega (arith, shrinks j k le (omega arith)) }
