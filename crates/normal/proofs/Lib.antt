@@ -2,3 +2,4 @@ mod Values
 mod Heights
 mod Mirror
 mod Halves
+pub mod Rules
