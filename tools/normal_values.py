@@ -6,11 +6,10 @@ Run it at the repository's root; it needs mpmath (https://mpmath.org, written wi
     python3 tools/normal_values.py > crates/normal_values/stdin
 
 Each line has four whole numbers: a standard uncertainty s and an offset x in steps, then the probability that a
-normal error is at most x, in units of 10^-12, rounded down and rounded up. The probability is
-1 - erfc(z / sqrt 2) / 2 at z = x / s for x above 0, the rest of one for x below 0, and one half at 0. It is computed
-with 60 digits from the tail, which keeps its relative precision, so that no rounding on the way can reach the twelfth
-decimal. The value is no whole number of units but at 0, so that
-elsewhere the two roundings differ by one.
+normal error is at most x, in units of 10^-12, rounded down and rounded up. With z = x / s the probability is
+1 - erfc(z / sqrt 2) / 2 for x above 0, the rest of one for x below 0, and one half at 0. It is computed from the tail
+erfc(z / sqrt 2) / 2 with 60 digits, which keep its relative precision, and the script makes sure that no whole number
+of units is so near that rounding on the way could matter. Only at 0 is the value such a number itself.
 """
 from mpmath import mp, mpf, erfc, sqrt, floor
 
@@ -36,7 +35,8 @@ def tail(s, x):
     """The probability of an error above x, for x above 0, in units, rounded down; it is never a whole number of them."""
     exact = erfc(mpf(x) / s / sqrt(mpf(2))) / 2 * UNITS
     down = int(floor(exact))
-    assert mpf(down) < exact < down + 1
+    doubt = exact * mpf(10) ** -40
+    assert down + doubt < exact < down + 1 - doubt
     return down
 
 

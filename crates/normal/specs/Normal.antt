@@ -1,8 +1,11 @@
 -- What the normal kind answers.
 use mathlib.Core.Bool.{cond}
-use Prim.Native.Nat.{ℕ, zero, suc, _+_, _-_, _*_, _/_, _%_, min, max}
+use mathlib.Core.Path.{_≡_}
+use Prim.Native.Nat.{ℕ, zero, suc, _+_, _-_, _*_, _/_, _%_, _≤_, _<_, min, max}
 use lib.Dec.{ltb}
 use lib.IntN.{ℤ, pos, negsuc}
+use Rattle.std.specs.declared.option.Option.{Option}
+use Rattle.std.specs.declared.option.Option.the-variants.{Some, None}
 use Rattle.knowledge.specs.Millionths.{million, rounded-down, rounded-up}
 use Rattle.knowledge.specs.Knowledge.{Answers}
 use Rattle.normal.specs.Table.{value, gap}
@@ -14,15 +17,20 @@ tenths s n = 10 * n / s
 abbrev pub left-over : ℕ → ℕ → ℕ
 left-over s n = 10 * n % s
 
--- the height of the table's chord n steps above the reading, in millionths over s
+-- the height of the table's chord n steps above the reading, in millionths, as a numerator over s
 abbrev pub height : ℕ → ℕ → ℕ
 height s n = 10 * (value (tenths s n) * s + gap (tenths s n) * left-over s n)
 
--- within four standard uncertainties the floor is the chord rounded down, less 5, and at least one half; from there on it stays
+-- that height as an answer: there is none from four standard uncertainties on, where the table ends
+abbrev pub Height-at : ℕ → ℕ → Option ℕ → Type 0
+Height-at s n None = 40 ≤ tenths s n
+Height-at s n (Some h) = (tenths s n < 40) × (h ≡ height s n)
+
+-- the floor: up to four standard uncertainties 5 under the chord, rounded down, but one half or more; from there on it stays
 abbrev pub floor-above : ℕ → ℕ → ℕ
 floor-above s n = cond (ltb (tenths s n) 40) (max 500000 (rounded-down (height s n) s - 5)) 999965
 
--- the ceiling is the chord rounded up, plus 308, and at most one; from four standard uncertainties on it is one
+-- the ceiling: up to four standard uncertainties 308 over the chord, rounded up, but no more than one; from there on it is one
 abbrev pub ceiling-above : ℕ → ℕ → ℕ
 ceiling-above s n = cond (ltb (tenths s n) 40) (min million (rounded-up (height s n) s + 308)) million
 

@@ -2,14 +2,13 @@
 mod table;
 
 ghost use mathlib.Core.Path.{_≡_};
-ghost use Prim.Native.Nat.{_-_, _≤_, _<_};
+ghost use Prim.Native.Nat.{_-_, _≤_};
 ghost use lib.IntN.{pos};
 ghost use lib.Signed.{_≤ℤ_};
-ghost use Rattle.std.specs.Options.{Cases};
 ghost use Rattle.faults.specs.Faults.{Granted};
 ghost use Rattle.faults.specs.declared.Refusal.the-variants.{OutOfRange};
 ghost use Rattle.knowledge.specs.Millionths.{million};
-ghost use Rattle.normal.specs.Normal.{tenths, height, floor-above, ceiling-above, normal};
+ghost use Rattle.normal.specs.Normal.{Height-at, floor-above, ceiling-above, normal};
 use faults::Fault;
 use faults::Refusal;
 use knowledge::Knowledge;
@@ -54,10 +53,10 @@ impl Normal {
         })
     }
 
-    // The chord's height at this many steps above the reading, in millionths over the standard uncertainty; none where the table ends.
+    // The chord's height at this many steps above the reading, in millionths, multiplied by the standard uncertainty; none past the table.
     fn height(&self, steps: u64) -> Option<u64>
         requires { ⌜ steps ≤ 2000000 ⌝ }
-        ensures { λ r. ⌜ Cases r (40 ≤ tenths (now (self .entry) .«standard_uncertainty») steps) (λ h. (tenths (now (self .entry) .«standard_uncertainty») steps < 40) × (h ≡ height (now (self .entry) .«standard_uncertainty») steps)) ⌝ }
+        ensures { λ r. ⌜ Height-at (now (self .entry) .«standard_uncertainty») steps r ⌝ }
     {
         let tenth = u64::from(self.standard_uncertainty);
         let chord = chord_over(10 * steps / tenth)?;

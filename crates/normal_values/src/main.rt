@@ -63,7 +63,7 @@ fn through_layers(kind: Normal, offset: i64) -> (u32, u32)
 fn main(rt: LibcRuntime) -> Result<(), AnyError> {
     let mut compared = 0u64;
     let mut outside = 0u64;
-    let mut shifted = 0u64;
+    let mut different = 0u64;
     for line in BufReader::new(rt.stdin()).lines(rt.alloc()) {
         let Some(row) = parse(line?.as_str()) else {
             return Err("a line is not four numbers".into());
@@ -76,13 +76,13 @@ fn main(rt: LibcRuntime) -> Result<(), AnyError> {
             outside = outside.wrapping_add(1);
         }
         if through_layers(kind, row.offset) != (floor, ceiling) {
-            shifted = shifted.wrapping_add(1);
+            different = different.wrapping_add(1);
         }
         compared = compared.wrapping_add(1);
     }
     println!(
         rt,
-        "{compared} values compared: {outside} outside floor and ceiling, {shifted} another through bias layers"
+        "{compared} values compared: {outside} outside floor and ceiling, {different} different through bias layers"
     )?;
     Ok(())
 }
