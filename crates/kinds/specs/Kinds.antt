@@ -4,7 +4,7 @@ use Prim.Native.Nat.{ℕ}
 use lib.IntN.{ℤ, pos}
 use lib.Signed.{_≤ℤ_}
 use Rattle.std.specs.declared.result.Result.{Result}
-use Rattle.std.specs.declared.result.Result.the-variants.{Ok, Err}
+use Rattle.std.specs.declared.result.Result.the-variants.{Err}
 use Rattle.faults.specs.declared.Fault.{Fault}
 use Rattle.faults.specs.declared.Refusal.the-variants.{OutOfRange, UnknownLetter}
 use Rattle.faults.specs.Faults.{direct, Granted}
@@ -37,4 +37,4 @@ Within s greatest = (pos 1 ≤ℤ s) × (s ≤ℤ pos greatest)
 pub record Named (letter : ℕ) (spread : ℤ) (r : Result Kind Fault) : Type 0 where
   pub under-N : letter ≡ 78 → Granted r (Within spread 100000) (λ k. (letter-of k ≡ letter) × (spread-of k ≡ spread)) OutOfRange
   pub under-R : letter ≡ 82 → Granted r (Within spread 400000) (λ k. (letter-of k ≡ letter) × (spread-of k ≡ spread)) OutOfRange
-  pub under-no-other : (letter ≡ 78 → ⊥) → (letter ≡ 82 → ⊥) → r ≡ Err (direct UnknownLetter)
+  pub under-another : (letter ≡ 78 → ⊥) → (letter ≡ 82 → ⊥) → r ≡ Err (direct UnknownLetter)

@@ -10,10 +10,11 @@ use Rattle.knowledge.specs.Millionths.{million, rounded-down, rounded-up}
 use Rattle.knowledge.specs.Knowledge.{Answers}
 use Rattle.normal.specs.Table.{value, gap}
 
--- n steps in tenths of the standard uncertainty s: the whole tenths, and what is left over, in parts of which s make a tenth
+-- n steps in whole tenths of the standard uncertainty s
 abbrev pub tenths : ℕ → ℕ → ℕ
 tenths s n = 10 * n / s
 
+-- and how far they reach into the next tenth, in parts of which s make a tenth
 abbrev pub left-over : ℕ → ℕ → ℕ
 left-over s n = 10 * n % s
 
@@ -26,11 +27,11 @@ abbrev pub Height-at : ℕ → ℕ → Option ℕ → Type 0
 Height-at s n None = 40 ≤ tenths s n
 Height-at s n (Some h) = (tenths s n < 40) × (h ≡ height s n)
 
--- the floor: up to four standard uncertainties 5 under the chord, rounded down, but one half or more; from there on it stays
+-- the floor: up to four standard uncertainties 5 under the chord, rounded down, but one half or more; from there on 999,965
 abbrev pub floor-above : ℕ → ℕ → ℕ
 floor-above s n = cond (ltb (tenths s n) 40) (max 500000 (rounded-down (height s n) s - 5)) 999965
 
--- the ceiling: up to four standard uncertainties 308 over the chord, rounded up, but no more than one; from there on it is one
+-- the ceiling: up to four standard uncertainties 308 over the chord, rounded up, but no more than one; from there on one
 abbrev pub ceiling-above : ℕ → ℕ → ℕ
 ceiling-above s n = cond (ltb (tenths s n) 40) (min million (rounded-up (height s n) s + 308)) million
 
