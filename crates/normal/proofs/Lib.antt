@@ -1,0 +1,5 @@
+mod Values
+mod Heights
+mod Mirror
+mod Halves
+pub mod Rules
