@@ -8,7 +8,7 @@ use lib.Signed.{_≤ℤ_}
 use Rattle.std.specs.Numbers.{divEuclid}
 use Rattle.std.proofs.shelf.Bits.{mul-le}
 use Rattle.std.proofs.shelf.Signed.{ints}
-use Rattle.requirement.specs.Limits.{from-to}
+use Rattle.faults.specs.Ranges.{from-to}
 use Rattle.requirement.proofs.Reach.{range-out, range-in}
 use Rattle.acceptance.specs.Guard.{hundredths-up, Least-hundredth}
 

@@ -9,7 +9,7 @@ use Rattle.faults.specs.declared.Refusal.{Refusal}
 use Rattle.faults.specs.declared.Refusal.the-variants.{OutOfRange}
 use Rattle.faults.specs.Faults.{check}
 use Rattle.knowledge.specs.Millionths.{rounded-down, rounded-up}
-use Rattle.requirement.specs.Limits.{from-to}
+use Rattle.faults.specs.Ranges.{from-to}
 use Rattle.requirement.specs.declared.rules.Rule.{Rule}
 use Rattle.requirement.specs.declared.rules.Rule.the-variants.{Simple, Guard, Multiple, Shares}
 

@@ -3,7 +3,7 @@ ghost use mathlib.Core.Bool.{true};
 ghost use mathlib.Core.Path.{_≡_};
 ghost use lib.IntN.{pos, negℤ, _*ℤ_};
 ghost use Rattle.faults.specs.Faults.{Answers-by};
-ghost use Rattle.requirement.specs.Limits.{from-to};
+ghost use Rattle.faults.specs.Ranges.{from-to};
 ghost use Rattle.acceptance.specs.Guard.{is-expanded, hundredths-up, Least-hundredth, width-of, width-refusal};
 use faults::Fault;
 use faults::Refusal;

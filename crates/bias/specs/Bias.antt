@@ -1,17 +1,25 @@
 -- What a bias layer answers over another state of knowledge.
-use mathlib.Core.Bool.{cond, _&&_}
+use mathlib.Core.Bool.{Bool, cond}
 use lib.IntN.{ℤ, pos, negℤ, _+ℤ_}
-use lib.Signed.{_≤ℤ_, leZ}
+use Rattle.std.specs.declared.option.Option.{Option}
+use Rattle.std.specs.declared.option.Option.the-variants.{None}
+use Rattle.faults.specs.declared.Refusal.{Refusal}
+use Rattle.faults.specs.declared.Refusal.the-variants.{OutOfRange}
+use Rattle.faults.specs.Faults.{check}
+use Rattle.faults.specs.Ranges.{from-to}
 use Rattle.knowledge.specs.Offsets.{nearest}
 use Rattle.knowledge.specs.Knowledge.{Answers}
 
 -- a bias lies from -100,000 to 100,000 steps
-abbrev pub Admissible : ℤ → Type 0
-Admissible c = (negℤ (pos 100000) ≤ℤ c) × (c ≤ℤ pos 100000)
+abbrev pub is-bias : ℤ → Bool
+is-bias c = from-to (negℤ (pos 100000)) (pos 100000) c
+
+abbrev pub bias-refusal : ℤ → Option Refusal
+bias-refusal c = check (is-bias c) OutOfRange None
 
 -- the bias itself, or 0 where it lies outside
 abbrev pub kept : ℤ → ℤ
-kept c = cond (leZ (negℤ (pos 100000)) c && leZ c (pos 100000)) c (pos 0)
+kept c = cond (is-bias c) c (pos 0)
 
 -- an instrument that reads c too high: at x the answers are those below at x + c
 abbrev pub shifted : ℤ → Answers → Answers

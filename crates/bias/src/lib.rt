@@ -2,10 +2,9 @@
 ghost use lib.IntN.{pos, negℤ, _+ℤ_};
 ghost use lib.Signed.{_≤ℤ_};
 ghost use mathlib.Core.Path.{_≡_};
-ghost use Rattle.faults.specs.Faults.{Granted};
-ghost use Rattle.faults.specs.declared.Refusal.the-variants.{OutOfRange};
+ghost use Rattle.faults.specs.Faults.{Answers-by};
 ghost use Rattle.knowledge.specs.Offsets.{nearest};
-ghost use Rattle.bias.specs.Bias.{Admissible, kept, shifted};
+ghost use Rattle.bias.specs.Bias.{bias-refusal, kept, shifted};
 use faults::Fault;
 use faults::Refusal;
 use knowledge::Knowledge;
@@ -25,7 +24,7 @@ pub struct Biased<K> {
 
 // Whether a layer can have this bias, from -100,000 to 100,000 steps.
 pub fn check_bias(bias: i64) -> Result<(), Fault>
-    ensures { λ r. ⌜ Granted r (Admissible bias) (λ _. Unit {0}) OutOfRange ⌝ }
+    ensures { λ r. ⌜ Answers-by (bias-refusal bias) r (λ _. Unit {0}) ⌝ }
 {
     if bias < -GREATEST_BIAS || bias > GREATEST_BIAS {
         return Err(Fault::direct(Refusal::OutOfRange));

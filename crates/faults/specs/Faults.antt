@@ -12,11 +12,6 @@ use Rattle.faults.specs.declared.Fault.{Fault}
 abbrev pub direct : Refusal → Fault
 direct r = record { refusal = r; «record» = 0; field = 0 }
 
--- a call that is granted where P holds, with Q of its value, and where P does not hold refuses directly with e
-abbrev pub Granted : {T : Type 0} → Result T Fault → Type 0 → (T → Type 0) → Refusal → Type 0
-Granted (Ok x) P Q e = P × Q x
-Granted (Err f) P Q e = (P → ⊥) × (f ≡ direct e)
-
 -- the checks of a call in their order: the refusal of the first that fails, none where all pass
 abbrev pub check : Bool → Refusal → Option Refusal → Option Refusal
 check true e later = later

@@ -1,13 +1,14 @@
 -- The kinds by their letters.
+use mathlib.Core.Bool.{Bool, cond, _||_}
 use mathlib.Core.Path.{_≡_}
 use Prim.Native.Nat.{ℕ}
+use lib.Dec.{eqb}
 use lib.IntN.{ℤ, pos}
-use lib.Signed.{_≤ℤ_}
-use Rattle.std.specs.declared.result.Result.{Result}
-use Rattle.std.specs.declared.result.Result.the-variants.{Err}
-use Rattle.faults.specs.declared.Fault.{Fault}
-use Rattle.faults.specs.declared.Refusal.the-variants.{OutOfRange, UnknownLetter}
-use Rattle.faults.specs.Faults.{direct, Granted}
+use Rattle.std.specs.declared.option.Option.{Option}
+use Rattle.faults.specs.declared.Refusal.{Refusal}
+use Rattle.faults.specs.declared.Refusal.the-variants.{UnknownLetter}
+use Rattle.faults.specs.Faults.{check}
+use Rattle.faults.specs.Ranges.{range-refusal}
 use Rattle.knowledge.specs.Knowledge.{Answers}
 use Rattle.normal.specs.Normal.{normal}
 use Rattle.rectangular.specs.Rectangular.{rectangular}
@@ -29,12 +30,18 @@ abbrev pub spread-of : Kind → ℤ
 spread-of (N k) = pos (k .«standard_uncertainty»)
 spread-of (R k) = pos (k .«half_width»)
 
--- a spread from 1 to the greatest one
-abbrev pub Within : ℤ → ℕ → Type 0
-Within s greatest = (pos 1 ≤ℤ s) × (s ≤ℤ pos greatest)
+-- the letters N and R, and the greatest spread of each
+abbrev pub known-kind : ℕ → Bool
+known-kind letter = eqb letter 78 || eqb letter 82
 
--- what a letter and a spread name: the letter is looked at first, then the range of its spreads
-pub record Named (letter : ℕ) (spread : ℤ) (r : Result Kind Fault) : Type 0 where
-  pub under-N : letter ≡ 78 → Granted r (Within spread 100000) (λ k. (letter-of k ≡ letter) × (spread-of k ≡ spread)) OutOfRange
-  pub under-R : letter ≡ 82 → Granted r (Within spread 400000) (λ k. (letter-of k ≡ letter) × (spread-of k ≡ spread)) OutOfRange
-  pub under-another : (letter ≡ 78 → ⊥) → (letter ≡ 82 → ⊥) → r ≡ Err (direct UnknownLetter)
+abbrev pub greatest-spread : ℕ → ℕ
+greatest-spread letter = cond (eqb letter 78) 100000 400000
+
+-- what a letter and a spread are refused for: the letter is looked at first, then the range of its spreads
+abbrev pub kind-refusal : ℕ → ℤ → Option Refusal
+kind-refusal letter spread = check (known-kind letter) UnknownLetter (range-refusal (pos 1) (pos (greatest-spread letter)) spread)
+
+-- a kind has the letter and the spread that it was made with, which decide it
+pub record Has-given (letter : ℕ) (spread : ℤ) (k : Kind) : Type 0 where
+  pub letter-is : letter-of k ≡ letter
+  pub spread-is : spread-of k ≡ spread

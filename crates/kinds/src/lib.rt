@@ -1,6 +1,7 @@
 // The kinds of states of knowledge by their letters, as records name them.
 ghost use mathlib.Core.Path.{_≡_};
-ghost use Rattle.kinds.specs.Kinds.{answered, Named};
+ghost use Rattle.faults.specs.Faults.{Answers-by};
+ghost use Rattle.kinds.specs.Kinds.{answered, kind-refusal, Has-given};
 use faults::Fault;
 use faults::Refusal;
 use knowledge::Knowledge;
@@ -19,7 +20,7 @@ pub enum Kind {
 impl Kind {
     // The kind of this letter with this spread: a standard uncertainty under N, a half-width under R.
     pub fn new(letter: char, spread: i64) -> Result<Self, Fault>
-        ensures { λ r. ⌜ Named letter spread r ⌝ }
+        ensures { λ r. ⌜ Answers-by (kind-refusal letter spread) r (Has-given letter spread) ⌝ }
     {
         match letter {
             'N' => Ok(Kind::Normal(Normal::new(spread)?)),

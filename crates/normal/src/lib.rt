@@ -4,9 +4,8 @@ mod table;
 ghost use mathlib.Core.Path.{_≡_};
 ghost use Prim.Native.Nat.{_-_, _≤_};
 ghost use lib.IntN.{pos};
-ghost use lib.Signed.{_≤ℤ_};
-ghost use Rattle.faults.specs.Faults.{Granted};
-ghost use Rattle.faults.specs.declared.Refusal.the-variants.{OutOfRange};
+ghost use Rattle.faults.specs.Faults.{Answers-by};
+ghost use Rattle.faults.specs.Ranges.{range-refusal};
 ghost use Rattle.knowledge.specs.Millionths.{million};
 ghost use Rattle.normal.specs.Normal.{Height-at, floor-above, ceiling-above, normal};
 use faults::Fault;
@@ -43,7 +42,7 @@ pub struct Normal {
 impl Normal {
     // The kind with this standard uncertainty, from 1 to 100,000 steps.
     pub fn new(standard_uncertainty: i64) -> Result<Self, Fault>
-        ensures { λ r. ⌜ Granted r ((pos 1 ≤ℤ «standard_uncertainty») × («standard_uncertainty» ≤ℤ pos 100000)) (λ k. pos (k .«standard_uncertainty») ≡ «standard_uncertainty») OutOfRange ⌝ }
+        ensures { λ r. ⌜ Answers-by (range-refusal (pos 1) (pos 100000) «standard_uncertainty») r (λ k. pos (k .«standard_uncertainty») ≡ «standard_uncertainty») ⌝ }
     {
         if standard_uncertainty < 1 || standard_uncertainty > WIDEST {
             return Err(Fault::direct(Refusal::OutOfRange));

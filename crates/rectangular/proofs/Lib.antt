@@ -1,1 +1,2 @@
 mod Interval
+pub mod Rules

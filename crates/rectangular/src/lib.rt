@@ -2,9 +2,8 @@
 ghost use mathlib.Core.Path.{_≡_};
 ghost use Prim.Native.Nat.{_≤_};
 ghost use lib.IntN.{pos};
-ghost use lib.Signed.{_≤ℤ_};
-ghost use Rattle.faults.specs.Faults.{Granted};
-ghost use Rattle.faults.specs.declared.Refusal.the-variants.{OutOfRange};
+ghost use Rattle.faults.specs.Faults.{Answers-by};
+ghost use Rattle.faults.specs.Ranges.{range-refusal};
 ghost use Rattle.rectangular.specs.Rectangular.{covered, rectangular};
 use faults::Fault;
 use faults::Refusal;
@@ -26,7 +25,7 @@ pub struct Rectangular {
 impl Rectangular {
     // The kind with this half-width, from 1 to 400,000 steps.
     pub fn new(half_width: i64) -> Result<Self, Fault>
-        ensures { λ r. ⌜ Granted r ((pos 1 ≤ℤ «half_width») × («half_width» ≤ℤ pos 400000)) (λ k. pos (k .«half_width») ≡ «half_width») OutOfRange ⌝ }
+        ensures { λ r. ⌜ Answers-by (range-refusal (pos 1) (pos 400000) «half_width») r (λ k. pos (k .«half_width») ≡ «half_width») ⌝ }
     {
         if half_width < 1 || half_width > WIDEST {
             return Err(Fault::direct(Refusal::OutOfRange));

@@ -12,7 +12,8 @@ use Rattle.std.proofs.shelf.Tests.{and-parts, and-from}
 use Rattle.requirement.specs.Rules.{is-share, numbers-fit, fits-limits, fits-mode}
 use Rattle.requirement.specs.declared.rules.Rule.the-variants.{Guard, Multiple, Shares}
 use Rattle.requirement.specs.declared.requirements.Requirement.{Requirement}
-use Rattle.requirement.specs.Limits.{from-to, in-reach, ascending}
+use Rattle.requirement.specs.Limits.{in-reach, ascending}
+use Rattle.faults.specs.Ranges.{from-to}
 
 pub range-out : (low high x : ℤ) → from-to low high x ≡ true → (low ≤ℤ x) × (x ≤ℤ high)
 range-out low high x h =

@@ -7,10 +7,7 @@ use Rattle.std.specs.declared.option.Option.the-variants.{None, Some}
 use Rattle.faults.specs.declared.Refusal.{Refusal}
 use Rattle.faults.specs.declared.Refusal.the-variants.{OutOfRange, NoLimit, LimitsNotAscending}
 use Rattle.faults.specs.Faults.{check}
-
--- x lies from low to high
-abbrev pub from-to : ℤ → ℤ → ℤ → Bool
-from-to low high x = leZ low x && leZ x high
+use Rattle.faults.specs.Ranges.{from-to}
 
 -- readings and limits lie from -1,000,000 to 1,000,000 steps
 abbrev pub in-reach : ℤ → Bool

@@ -2,7 +2,7 @@
 use mathlib.Core.Bool.{Bool, _&&_}
 use lib.IntN.{ℤ, pos}
 use Rattle.std.specs.declared.option.Option.{Option}
-use Rattle.requirement.specs.Limits.{from-to}
+use Rattle.faults.specs.Ranges.{from-to}
 use Rattle.requirement.specs.Rules.{numbers-fit, fits-limits, fits-mode}
 use Rattle.requirement.specs.declared.rules.Rule.{Rule}
 use Rattle.requirement.specs.declared.rules.Mode.{Mode}

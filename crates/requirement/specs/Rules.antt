@@ -7,7 +7,7 @@ use lib.Signed.{leZ}
 use Rattle.std.specs.Options.{isSome}
 use Rattle.std.specs.declared.option.Option.{Option}
 use Rattle.std.specs.declared.option.Option.the-variants.{None, Some}
-use Rattle.requirement.specs.Limits.{from-to}
+use Rattle.faults.specs.Ranges.{from-to}
 use Rattle.requirement.specs.declared.rules.Rule.{Rule}
 use Rattle.requirement.specs.declared.rules.Rule.the-variants.{Simple, Guard, Multiple, Shares}
 use Rattle.requirement.specs.declared.rules.Mode.{Mode}

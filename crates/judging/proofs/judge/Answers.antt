@@ -7,7 +7,7 @@ use mir.Val.{SFits}
 use Rattle.std.proofs.shelf.Results.{err-from-errBy}
 use Rattle.std.proofs.shelf.Signed.{ints, toZ-ofZ}
 use Rattle.faults.proofs.Checks.{its-value}
-use Rattle.requirement.specs.Limits.{from-to}
+use Rattle.faults.specs.Ranges.{from-to}
 use Rattle.requirement.proofs.Reach.{range-out}
 use Rattle.acceptance.specs.Guard.{width-of, width-refusal}
 use Rattle.judging.proofs.Order.{by-width, by-limits, answered}

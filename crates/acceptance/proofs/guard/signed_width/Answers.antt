@@ -5,7 +5,7 @@ use lib.IntN.{ℤ, pos, negℤ, _*ℤ_}
 use mir.Syntax.{w64}
 use mir.Val.{SFits}
 use Rattle.std.proofs.shelf.Signed.{ints, toZ-ofZ}
-use Rattle.requirement.specs.Limits.{from-to}
+use Rattle.faults.specs.Ranges.{from-to}
 use Rattle.requirement.proofs.Reach.{range-out, range-in, guard-of, multiple-of}
 use Rattle.acceptance.specs.Guard.{hundredths-up, width-of}
 use Rattle.acceptance.proofs.Widths.{product-within, width-within}

@@ -1,6 +1,6 @@
 use Rattle.normal.proofs.Rules.{normal-rules}
+use Rattle.rectangular.proofs.Rules.{rectangular-rules}
 use Rattle.kinds.specs.declared.Kind.the-variants.{Normal as N, Rectangular as R}
-use Rattle.kinds.proofs.Interval.{rectangular-rules}
 use Rattle.kinds.proofs.KindKnowledge.the-impl.Needs as need
 
 pub rules-law : need.rules-law
