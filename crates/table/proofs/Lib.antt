@@ -1,0 +1,3 @@
+pub mod Ascents
+mod Bisection
+mod Shifts
