@@ -1,0 +1,61 @@
+-- Keys that stand among entries, by what a search answers.
+use mathlib.Core.Path.{_≡_, sym, _∙_, ap, subst}
+use mathlib.Core.Logic.{⊎-elim}
+use mathlib.Core.Bool.{true≢false}
+use mathlib.Core.List.{List, [], _∷_, map}
+use Prim.Native.Nat.{ℕ, _≤_, _<_}
+use native.Mathlib.Omega.{arith}
+use lib.ListN.{length, getD}
+use Rattle.std.specs.declared.cmp.Ordering.{Ordering}
+use Rattle.std.specs.declared.cmp.Ordering.the-variants.{Less}
+use Rattle.std.specs.declared.option.Option.{Option}
+use Rattle.std.specs.declared.option.Option.the-variants.{Some, None}
+use Rattle.std.specs.Finite.{nth}
+use Rattle.std.specs.Orderings.{isLt, reversed}
+use Rattle.std.specs.Places.{At, Parted}
+use Rattle.std.specs.shelf.Lists.{Has}
+use Rattle.std.proofs.shelf.Lists.{length-map, getD-map, getD-default}
+use Rattle.std.proofs.shelf.Maps.{nth-getD}
+use Rattle.std.proofs.shelf.Tests.{cases-lt}
+use Rattle.table.specs.Changes.{Picked}
+use Rattle.table.specs.Keys.{Order}
+use Rattle.table.specs.Places.{Stands}
+
+-- no key is less than itself
+pub not-less : {K : Type 0} {answers : K → K → Ordering → Type 0} {compare : K → K → Ordering} → Order answers compare → (k : K) → compare k k ≡ Less → ⊥
+not-less {compare} o k less = true≢false (ap isLt (sym less ∙ o .flip k k ∙ ap reversed less))
+
+-- the parts about a key are those about an equal one
+pub parted-at : {E K : Type 0} (key : E → K) (compare : K → K → Ordering) (xs : List E) (i : ℕ) (k k′ : K) → k ≡ k′ → Parted (λ e. compare (key e) k ≡ Less) (λ e. compare k (key e) ≡ Less) xs i → Parted (λ e. compare (key e) k′ ≡ Less) (λ e. compare k′ (key e) ≡ Less) xs i
+parted-at key compare xs i k k′ same parts =
+    (λ j d from to. ap (compare (key (getD xs j d))) (sym same) ∙ parts .0 j d from to, λ j d from to. ap (λ w. compare w (key (getD xs j d))) (sym same) ∙ parts .1 j d from to)
+
+module _ {E K : Type 0} (key : E → K) (k : K) where
+  -- the key of the entry at i stands
+  pub stands-at : (xs : List E) (i : ℕ) → i < length xs → At (λ e. key e ≡ k) xs i → Stands key xs k
+  stands-at [] i within at = absurd (omega arith)
+  stands-at (x ∷ xs) i within at = (i, omega (arith, length-map (x ∷ xs) key), λ d. getD-map key (x ∷ xs) i x d within ∙ at x)
+
+  -- a key that stands is that of an entry at some place
+  pub stands-place : (xs : List E) → Stands key xs k → (i : ℕ) × (i < length xs) × At (λ e. key e ≡ k) xs i
+  stands-place xs (i, within, at) =
+      let within′ : i < length xs = omega (arith, length-map xs key) in
+      (i, within′, λ d. sym (getD-map key xs i d (key d) within′) ∙ at (key d))
+
+  module _ {answers : K → K → Ordering → Type 0} {compare : K → K → Ordering} (o : Order answers compare) where
+    -- between lesser keys and greater ones no entry has the key
+    pub stands-not : (xs : List E) (i : ℕ) → Parted (λ e. compare (key e) k ≡ Less) (λ e. compare k (key e) ≡ Less) xs i → Stands key xs k → ⊥
+    stands-not [] i parts stands = absurd (omega (arith, stands .1))
+    stands-not (x ∷ xs) i parts stands =
+        let place = stands-place (x ∷ xs) stands in
+        let j = place .0 in
+        let same = place .2 x in
+        ⊎-elim (λ before. not-less o k (ap (λ w. compare w k) (sym same) ∙ parts .0 j x (omega arith) before))
+        (λ after. not-less o k (ap (compare k) (sym same) ∙ parts .1 j x after (place .1))) (cases-lt j i)
+
+  -- the entry at the key's place is the one that a look-up picks
+  pub picked-at : (xs : List E) (i : ℕ) (r : Option E) → i < length xs → At (λ e. key e ≡ k) xs i → r ≡ nth xs i → Picked key xs k r
+  picked-at [] i r within at is = absurd (omega arith)
+  picked-at (x ∷ xs) i r within at is =
+      let P : Option E → Type 0 = Picked key (x ∷ xs) k in
+      subst P (sym (is ∙ nth-getD (x ∷ xs) i x within)) ((i, within, λ d. getD-default (x ∷ xs) i d x within), at x)
