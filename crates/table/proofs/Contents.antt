@@ -16,7 +16,7 @@ use Rattle.std.proofs.shelf.Sums.{sumBy-cons}
 use Rattle.table.specs.declared.Table.{Table}
 use Rattle.table.specs.declared.Refused.{Refused}
 use Rattle.table.specs.declared.Refused.the-variants.{Present, Full}
-use Rattle.table.specs.Changes.{Admitted}
+use Rattle.table.specs.Changes.{Allowed}
 use Rattle.table.specs.Tables.{standing, capacity}
 
 module _ {E : Type 0} where
@@ -47,7 +47,7 @@ module _ {E : Type 0} where
   sum-removed f xs i e within at = sumBy-shuffled f (e ∷ removed xs i) xs (shuffled-removed xs i e within at) ∙ sumBy-cons f e (removed xs i)
 
 -- with no place every insertion is refused as full
-pub full-without-place : {E K : Type 0} (key : E → K) (t : Table E) (k : K) (r : Result ℕ Refused) → capacity t ≡ 0 → length (standing t) ≤ capacity t → Admitted key t k r → r ≡ Err Full
-full-without-place key t k (Ok i) none within admitted = absurd (omega (arith, admitted .1))
-full-without-place key t k (Err Present) none within admitted = absurd (omega (arith, admitted .1, length-map (standing t) key))
-full-without-place key t k (Err Full) none within admitted = refl
+pub full-without-place : {E K : Type 0} (key : E → K) (t : Table E) (k : K) (r : Result ℕ Refused) → capacity t ≡ 0 → length (standing t) ≤ capacity t → Allowed key t k r → r ≡ Err Full
+full-without-place key t k (Ok i) none within allowed = absurd (omega (arith, allowed .1))
+full-without-place key t k (Err Present) none within allowed = absurd (omega (arith, allowed .1, length-map (standing t) key))
+full-without-place key t k (Err Full) none within allowed = refl

@@ -22,18 +22,11 @@ use Rattle.table.proofs.Ascents.{ascending-inserted, ascending-removed}
 pub record Opened {E : Type 0} (xs : List E) (n i : ℕ) (e : E) (xs′ : List E) (n′ : ℕ) : Type 0 where
   pub front : take n′ xs′ ≡ inserted (take n xs) i e
   pub rest : drop n′ xs′ ≡ drop 1 (drop n xs)
-  pub long : length xs′ ≡ length xs
 
 -- after the entry e at i went out
 pub record Closed {E : Type 0} (xs : List E) (n i : ℕ) (e : E) (xs′ : List E) (n′ : ℕ) : Type 0 where
   pub front : take n′ xs′ ≡ removed (take n xs) i
   pub rest : drop n′ xs′ ≡ e ∷ drop n xs
-  pub long : length xs′ ≡ length xs
-
--- the list keeps its length
-length-put : {E : Type 0} (a k : ℕ) (xs ys : List E) → a + k ≤ length xs → length ys ≡ k → length (putMid a k xs ys) ≡ length xs
-length-put a k xs ys within size =
-    omega (arith, length-append (take a xs) (ys ++ drop k (drop a xs)), length-append ys (drop k (drop a xs)), length-take a xs, length-drop k (drop a xs), length-drop a xs)
 
 module _ {E : Type 0} (xs : List E) (n N : ℕ) (size : N ≡ length (take n xs)) where
   -- the count of entries serves as well as the count that the table holds
@@ -58,8 +51,8 @@ module _ {E : Type 0} (xs : List E) (n N : ℕ) (size : N ≡ length (take n xs)
         sym (take-at part (r ∷ []) (suc (N - i)) long) ∙ ap (take (suc (N - i))) (sym shift)
         ∙ ap (λ ys. e ∷ ys) (take-take (N - i) (N + 1 - i) (drop i xs) (omega arith) ∙ between-is xs i N)
 
-    pub opened : Opened xs n i e (putMid i (N + 1 - i) xs part) (N + 1)
-    opened =
+    opened-as : Opened xs n i e (putMid i (N + 1 - i) xs part) (N + 1)
+    opened-as =
         record {
           front =
               take-putMid i (N + 1 - i) xs part (N + 1) (omega (arith, part-size)) (omega arith)
@@ -67,8 +60,10 @@ module _ {E : Type 0} (xs : List E) (n N : ℕ) (size : N ≡ length (take n xs)
               ∙ ap (λ ys. ys ++ e ∷ drop i (take N xs)) (sym (take-take i N xs at))
               ∙ ap (λ ys. inserted ys i e) (sym front);
           rest = drop-putMid i (N + 1 - i) xs part (N + 1) (omega arith) (omega arith) part-size ∙ sym (drop-drop 1 N xs) ∙ ap (drop 1) (sym rest);
-          long = length-put i (N + 1 - i) xs part (omega arith) part-size;
         }
+
+    pub opened : Opened xs n i e (putMid i (N + 1 - i) xs part) (length (take n xs) + 1)
+    opened = let P : ℕ → Type 0 = λ m. Opened xs n i e (putMid i (N + 1 - i) xs part) (m + 1) in subst P size opened-as
 
   -- the entry e at i, shifted out to the end of the part
   module _ (i : ℕ) (e r : E) (part : List E) (at : i < N) (is : e ≡ getD xs i e) (shift : take (N - i) (drop i xs) ++ e ∷ [] ≡ r ∷ part) where
@@ -89,8 +84,8 @@ module _ {E : Type 0} (xs : List E) (n N : ℕ) (size : N ≡ length (take n xs)
     others =
         omega (arith, length-append (take i xs) (drop (i + 1) (take N xs)), length-take i xs, length-drop (i + 1) (take N xs), length-take N xs, length-take n xs)
 
-    pub closed : Closed xs n i e (putMid i (N - i) xs part) (N - 1)
-    closed =
+    closed-as : Closed xs n i e (putMid i (N - i) xs part) (N - 1)
+    closed-as =
         record {
           front =
               ap (take (N - 1)) whole ∙ take-at (take i xs ++ drop (i + 1) (take N xs)) (e ∷ drop N xs) (N - 1) others
@@ -99,21 +94,7 @@ module _ {E : Type 0} (xs : List E) (n N : ℕ) (size : N ≡ length (take n xs)
               ∙ ap (λ ys. removed ys i) (sym front);
           rest =
               ap (drop (N - 1)) whole ∙ drop-at (take i xs ++ drop (i + 1) (take N xs)) (e ∷ drop N xs) (N - 1) others ∙ ap (λ ys. e ∷ ys) (sym rest);
-          long =
-              length-put i (N - i) xs part (omega (arith, length-take n xs))
-              (omega (arith, ap length shift, length-push (take (N - i) (drop i xs)) e, length-take (N - i) (drop i xs), length-drop i xs, length-take n xs));
         }
 
--- the table stays in order
-module _ {E K : Type 0} (key : E → K) (compare : K → K → Ordering) (limit : ℕ) (xs : List E) (n i : ℕ) (e : E) (xs′ : List E) (n′ : ℕ) where
-  pub opened-ordered : Opened xs n i e xs′ n′ → length (take n xs) < min limit (length xs) → i ≤ length (take n xs) → Ascending key compare (take n xs) → Parted (λ x. compare (key x) (key e) ≡ Less) (λ x. compare (key e) (key x) ≡ Less) (take n xs) i → (length (take n′ xs′) ≤ min limit (length xs′)) × Ascending key compare (take n′ xs′)
-  opened-ordered after room at up parts = (
-    omega (arith, ap length (after .front), after .long, length-inserted (take n xs) i e at),
-    (let P = Ascending key compare in subst P (sym (after .front)) (ascending-inserted key compare (take n xs) i e at up (parts .0) (parts .1))),
-  )
-
-  pub closed-ordered : Closed xs n i e xs′ n′ → length (take n xs) ≤ min limit (length xs) → i < length (take n xs) → Ascending key compare (take n xs) → (length (take n′ xs′) ≤ min limit (length xs′)) × Ascending key compare (take n′ xs′)
-  closed-ordered after room at up = (
-    omega (arith, ap length (after .front), after .long, length-removed (take n xs) i at),
-    (let P = Ascending key compare in subst P (sym (after .front)) (ascending-removed key compare (take n xs) i at up)),
-  )
+    pub closed : Closed xs n i e (putMid i (N - i) xs part) (length (take n xs) - 1)
+    closed = let P : ℕ → Type 0 = λ m. Closed xs n i e (putMid i (N - i) xs part) (m - 1) in subst P size closed-as

@@ -11,6 +11,7 @@ use Rattle.std.specs.declared.cmp.Ordering.the-variants.{Less}
 use Rattle.std.specs.declared.option.Option.{Option}
 use Rattle.std.specs.declared.option.Option.the-variants.{Some, None}
 use Rattle.std.specs.declared.result.Result.{Result}
+use Rattle.std.specs.declared.result.Result.the-variants.{Ok, Err}
 use Rattle.std.specs.Finite.{nth}
 use Rattle.std.specs.Holes.{removed}
 use Rattle.std.specs.Orderings.{isLt, reversed}
@@ -24,16 +25,12 @@ use Rattle.std.proofs.shelf.Sorted.{has-shuffled}
 use Rattle.std.proofs.shelf.Tests.{cases-lt}
 use Rattle.table.specs.Changes.{Picked}
 use Rattle.table.specs.Keys.{Order, Ascending}
-use Rattle.table.specs.Places.{Found, Stands}
+use Rattle.table.specs.Places.{Found, Known, Stands}
 use Rattle.table.proofs.Ascents.{ascends}
 
 -- no key is less than itself
 pub not-less : {K : Type 0} {answers : K → K → Ordering → Type 0} {compare : K → K → Ordering} → Order answers compare → (k : K) → compare k k ≡ Less → ⊥
 not-less {compare} o k less = true≢false (ap isLt (sym less ∙ o .flip k k ∙ ap reversed less))
-
--- a search for a key answers for an equal one
-pub found-as : {E K : Type 0} (key : E → K) (compare : K → K → Ordering) (xs : List E) (r : Result ℕ ℕ) (k k′ : K) → k ≡ k′ → Found key compare xs k r → Found key compare xs k′ r
-found-as {K} key compare xs r k k′ same = let P : K → Type 0 = λ w. Found key compare xs w r in subst P same
 
 module _ {E K : Type 0} (key : E → K) (k : K) where
   -- the key of the entry at i stands
@@ -58,6 +55,11 @@ module _ {E K : Type 0} (key : E → K) (k : K) where
         ⊎-elim (λ before. not-less o k (ap (λ w. compare w k) (sym same) ∙ parts .0 j x (omega arith) before))
         (λ after. not-less o k (ap (compare k) (sym same) ∙ parts .1 j x after (place .1))) (cases-lt j i)
 
+    -- so a search tells whether the key stands
+    pub known-from-found : (xs : List E) (r : Result ℕ ℕ) → Found key compare xs k r → Ascending key compare xs → Known key xs k r
+    known-from-found xs (Ok i) found up = stands-at xs i (found .0) (found .1)
+    known-from-found xs (Err i) found up = stands-not xs i (found .1 up)
+
   -- the entry at the key's place is the one that a look-up picks
   pub picked-at : (xs : List E) (i : ℕ) (r : Option E) → i < length xs → At (λ e. key e ≡ k) xs i → r ≡ nth xs i → Picked key xs k r
   picked-at [] i r within at is = absurd (omega arith)
@@ -80,7 +82,7 @@ module _ {E K : Type 0} (key : E → K) {answers : K → K → Ordering → Type
   one-place i j d in-i in-j same =
       ⊎-elim (λ before. absurd (not-less o (key (getD xs j d)) (ap (λ w. compare w (key (getD xs j d))) (sym same) ∙ ascends key compare xs i j d up before in-j)))
       (λ not-before. ⊎-elim (λ after. absurd (not-less o (key (getD xs i d)) (ap (λ w. compare w (key (getD xs i d))) same ∙ ascends key compare xs j i d up after in-i)))
-        (λ not-after. omega arith) (cases-lt j i))
+      (λ not-after. omega arith) (cases-lt j i))
       (cases-lt i j)
 
   -- so with its entry the key is gone
@@ -91,6 +93,6 @@ module _ {E K : Type 0} (key : E → K) {answers : K → K → Ordering → Type
       let size = length-removed xs i within in
       let same = ap key (at e) in
       ⊎-elim
-        (λ before. let one = one-place j i e (omega arith) within (ap key (sym (getD-removed-below xs i e j before within)) ∙ place .2 e ∙ sym same) in omega arith)
-        (λ after. let one = one-place (j + 1) i e (omega arith) within (ap key (sym (getD-removed-above xs i e j after within)) ∙ place .2 e ∙ sym same) in omega arith)
-        (cases-lt j i)
+      (λ before. let one = one-place j i e (omega arith) within (ap key (sym (getD-removed-below xs i e j before within)) ∙ place .2 e ∙ sym same) in omega arith)
+      (λ after. let one = one-place (j + 1) i e (omega arith) within (ap key (sym (getD-removed-above xs i e j after within)) ∙ place .2 e ∙ sym same) in omega arith)
+      (cases-lt j i)

@@ -10,22 +10,18 @@ use Rattle.std.specs.declared.option.Option.{Option}
 use Rattle.std.specs.declared.option.Option.the-variants.{Some, None}
 use Rattle.std.specs.Finite.{nth}
 use Rattle.std.specs.Options.{mapped}
-use Rattle.std.specs.Places.{At, Item}
-use Rattle.std.proofs.shelf.Lists.{length-take, take-all, getD-take, getD-default}
+use Rattle.std.specs.Places.{Item}
+use Rattle.std.proofs.shelf.Lists.{length-take, take-all, getD-take}
 use Rattle.std.proofs.shelf.Maps.{nth-getD, nth-past}
 use Rattle.std.proofs.shelf.Tests.{cases-lt}
 
 -- what stands lies within the list
-pub standing-within : {E : Type 0} (n : ℕ) (xs : List E) → length (take n xs) ≤ length xs
-standing-within n xs = omega (arith, length-take n xs)
-
 pub standing-place : {E : Type 0} (n : ℕ) (xs : List E) (i : ℕ) → i < length (take n xs) → i < length xs
 standing-place n xs i at = omega (arith, length-take n xs)
 
--- an entry that stands is the one at its place in the list
-pub standing-item : {E : Type 0} (n : ℕ) (xs : List E) (i : ℕ) (x : E) → i < length (take n xs) → At (λ y. y ≡ getD xs i x) (take n xs) i
-standing-item n xs i x within d =
-    getD-take n xs i d (omega (arith, length-take n xs)) ∙ getD-default xs i d x (omega (arith, length-take n xs))
+-- and an entry that was read there is the one that stands
+pub standing-nth : {E : Type 0} (n : ℕ) (xs : List E) (i : ℕ) (e : E) → i < length (take n xs) → e ≡ getD xs i e → nth (take n xs) i ≡ Some e
+standing-nth n xs i e at is = nth-getD (take n xs) i e at ∙ ap Some (getD-take n xs i e (omega (arith, length-take n xs)) ∙ sym is)
 
 -- a count past the list's end takes the whole list
 pub take-min : {E : Type 0} (n m : ℕ) (xs : List E) → m ≡ min n (length xs) → take (m - 0) xs ≡ take n xs

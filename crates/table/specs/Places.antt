@@ -19,3 +19,8 @@ Found key compare xs k (Err i) = (i ≤ length xs) × (Ascending key compare xs 
 -- a key stands among entries: one of them has it
 abbrev pub Stands : {E K : Type 0} → (E → K) → List E → K → Type 0
 Stands key xs k = Has (map key xs) k
+
+-- an answer is right on whether the key stands
+abbrev pub Known : {E K : Type 0} → (E → K) → List E → K → Result ℕ ℕ → Type 0
+Known key xs k (Ok i) = Stands key xs k
+Known key xs k (Err i) = Stands key xs k → ⊥

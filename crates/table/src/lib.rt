@@ -1,19 +1,21 @@
 // One ordered table over the caller's list, for every kind of entry. An entry names its own key.
 ghost use mathlib.Core.Path.{_≡_};
 ghost use mathlib.Core.List.{[]};
-ghost use Prim.Native.Nat.{_≤_, min};
+ghost use Prim.Native.Nat.{_≤_, _<_, min};
 ghost use lib.Dec.{leb};
 ghost use lib.ListN.{length};
 ghost use denote.Ref.{name};
 ghost use Rattle.std.specs.declared.cmp.Ordering.{Ordering};
+ghost use Rattle.std.specs.declared.option.Option.the-variants.{Some};
+ghost use Rattle.std.specs.declared.result.Result.the-variants.{Ok, Err};
 ghost use Rattle.std.specs.Finite.{nth};
-ghost use Rattle.table.specs.Changes.{Admitted, Insertion, Picked, Removal};
+ghost use Rattle.table.specs.Changes.{Allowed, Insertion, Picked, Removal, Same-list, Taken};
 ghost use Rattle.table.specs.Keys.{Order};
-ghost use Rattle.table.specs.Places.{Found};
+ghost use Rattle.table.specs.Places.{Found, Known};
 ghost use Rattle.table.specs.Tables.{standing, beyond, capacity, Ordered};
 use parts::bisect;
-use parts::shift_back;
-use parts::shift_on;
+use parts::insert_at;
+use parts::remove_at;
 
 mod parts;
 
@@ -100,7 +102,8 @@ impl<'a, E: Entry> Table<'a, E> {
 
     // The place of the entry with this key, or else the place where it belongs.
     pub fn find(&self, key: E::Key) -> Result<usize, usize>
-        ensures { λ r. ⌜ Found (E·Entry .key) (E·Entry .compare) (standing (now (self .entry))) key r ⌝ }
+        ensures place { λ r. ⌜ Found (E·Entry .key) (E·Entry .compare) (standing (now (self .entry))) key r ⌝ }
+        ensures known { λ r. ⌜ (Ordered (E·Entry .key) (E·Entry .compare) (now (self .entry)) → Known (E·Entry .key) (standing (now (self .entry))) key r) ⌝ }
     {
         bisect(self.entries(), key)
     }
@@ -117,35 +120,56 @@ impl<'a, E: Entry> Table<'a, E> {
 
     // Puts the entry where its key belongs and answers that place. Each later entry moves once.
     pub fn insert(&mut self, entry: E) -> Result<usize, Refused>
-        ensures list { λ r. ⌜ (name (now (self .exit) .places) ≡ name (now (self .entry) .places)) × (capacity (now (self .exit)) ≡ capacity (now (self .entry))) ⌝ }
+        ensures list { λ _. ⌜ Same-list (now (self .entry)) (now (self .exit)) ⌝ }
         ensures change { λ r. ⌜ Insertion (now (self .entry)) entry r (now (self .exit)) ⌝ }
-        ensures outcome { λ r. ⌜ (Ordered (E·Entry .key) (E·Entry .compare) (now (self .entry)) → Admitted (E·Entry .key) (now (self .entry)) (E·Entry .key entry) r × Ordered (E·Entry .key) (E·Entry .compare) (now (self .exit))) ⌝ }
+        ensures outcome { λ r. ⌜ (Ordered (E·Entry .key) (E·Entry .compare) (now (self .entry)) → Allowed (E·Entry .key) (now (self .entry)) (E·Entry .key entry) r × Ordered (E·Entry .key) (E·Entry .compare) (now (self .exit))) ⌝ }
     {
-        let Err(place) = self.find(entry.key()) else {
-            return Err(Refused::Present);
-        };
-        if self.is_full() {
-            return Err(Refused::Full);
+        match self.find(entry.key()) {
+            Ok(_) => Err(Refused::Present),
+            Err(_) if self.is_full() => Err(Refused::Full),
+            Err(place) => {
+                self.open(place, entry);
+                Ok(place)
+            }
         }
-        let count = self.len() + 1;
-        let _ = shift_on(&mut self.places[place..count], entry);
-        self.count = count;
-        Ok(place)
+    }
+
+    // Puts the entry at a place that is free to have it.
+    fn open(&mut self, place: usize, entry: E)
+        requires { ⌜ place ≤ length (standing (now self)) ⌝ ∗ ⌜ length (standing (now self)) < capacity (now self) ⌝ }
+        ensures list { λ _. ⌜ Same-list (now (self .entry)) (now (self .exit)) ⌝ }
+        ensures change { λ _. ⌜ Insertion (now (self .entry)) entry (Ok place) (now (self .exit)) ⌝ }
+        ensures order { λ _. ⌜ (Ordered (E·Entry .key) (E·Entry .compare) (now (self .entry)) → Found (E·Entry .key) (E·Entry .compare) (standing (now (self .entry))) (E·Entry .key entry) (Err place) → Ordered (E·Entry .key) (E·Entry .compare) (now (self .exit))) ⌝ }
+    {
+        let count = self.count;
+        let more = self.len() + 1;
+        insert_at(self.places, count, place, entry);
+        self.count = more;
     }
 
     // Takes the entry with this key out of the table and closes its place. Each later entry moves once.
     pub fn remove(&mut self, key: E::Key) -> Option<E>
-        ensures list { λ r. ⌜ (name (now (self .exit) .places) ≡ name (now (self .entry) .places)) × (capacity (now (self .exit)) ≡ capacity (now (self .entry))) ⌝ }
+        ensures list { λ _. ⌜ Same-list (now (self .entry)) (now (self .exit)) ⌝ }
         ensures change { λ r. ⌜ Removal (now (self .entry)) r (now (self .exit)) ⌝ }
         ensures outcome { λ r. ⌜ (Ordered (E·Entry .key) (E·Entry .compare) (now (self .entry)) → Picked (E·Entry .key) (standing (now (self .entry))) key r × Ordered (E·Entry .key) (E·Entry .compare) (now (self .exit))) ⌝ }
     {
-        let Ok(place) = self.find(key) else {
-            return None;
-        };
-        let count = self.len();
-        let entry = self.places[place];
-        let _ = shift_back(&mut self.places[place..count], entry);
-        self.count = count - 1;
-        Some(entry)
+        match self.find(key) {
+            Ok(place) => Some(self.close(place)),
+            Err(_) => None,
+        }
+    }
+
+    // Takes out the entry at a place.
+    fn close(&mut self, place: usize) -> E
+        requires { ⌜ place < length (standing (now self)) ⌝ }
+        ensures list { λ _. ⌜ Same-list (now (self .entry)) (now (self .exit)) ⌝ }
+        ensures change { λ r. ⌜ Taken (now (self .entry)) place r (now (self .exit)) ⌝ }
+        ensures order { λ _. ⌜ (Ordered (E·Entry .key) (E·Entry .compare) (now (self .entry)) → Ordered (E·Entry .key) (E·Entry .compare) (now (self .exit))) ⌝ }
+    {
+        let count = self.count;
+        let fewer = self.len() - 1;
+        let entry = remove_at(self.places, count, place);
+        self.count = fewer;
+        entry
     }
 }

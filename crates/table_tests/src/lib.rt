@@ -84,7 +84,10 @@ mod tests {
         At(usize, Option<E>),
     }
 
-    fn play<E: Entry + PartialEq<E> + Debug>(table: &mut Table<E>, steps: &[Step<E>]) -> Result<(), Fail> {
+    fn play<E: Entry + PartialEq<E> + Debug>(
+        table: &mut Table<E>,
+        steps: &[Step<E>],
+    ) -> Result<(), Fail> {
         for step in steps {
             match *step {
                 Step::Insert(entry, due) => check_eq(table.insert(entry), due)?,
@@ -153,24 +156,42 @@ mod tests {
     fn under_numbers() -> Result<(), Fail> {
         let mut places = [reading(0); 3];
         let mut table = Table::new(&mut places, 3);
-        play(&mut table, &fill(reading(2), reading(3), reading(5), reading(900)))?;
-        play(&mut table, &refill(reading(2), reading(3), reading(5), reading(900)))
+        play(
+            &mut table,
+            &fill(reading(2), reading(3), reading(5), reading(900)),
+        )?;
+        play(
+            &mut table,
+            &refill(reading(2), reading(3), reading(5), reading(900)),
+        )
     }
 
     #[test]
     fn under_pairs() -> Result<(), Fail> {
         let mut places = [limit(9, 9); 3];
         let mut table = Table::new(&mut places, 3);
-        play(&mut table, &fill(limit(1, 20), limit(2, 1), limit(2, 3), limit(3, 2)))?;
-        play(&mut table, &refill(limit(1, 20), limit(2, 1), limit(2, 3), limit(3, 2)))
+        play(
+            &mut table,
+            &fill(limit(1, 20), limit(2, 1), limit(2, 3), limit(3, 2)),
+        )?;
+        play(
+            &mut table,
+            &refill(limit(1, 20), limit(2, 1), limit(2, 3), limit(3, 2)),
+        )
     }
 
     #[test]
     fn under_triples() -> Result<(), Fail> {
         let mut places = [mark(0, 0); 3];
         let mut table = Table::new(&mut places, 3);
-        play(&mut table, &fill(mark(-5, 9), mark(-4, 1), mark(0, 0), mark(0, 1)))?;
-        play(&mut table, &refill(mark(-5, 9), mark(-4, 1), mark(0, 0), mark(0, 1)))
+        play(
+            &mut table,
+            &fill(mark(-5, 9), mark(-4, 1), mark(0, 0), mark(0, 1)),
+        )?;
+        play(
+            &mut table,
+            &refill(mark(-5, 9), mark(-4, 1), mark(0, 0), mark(0, 1)),
+        )
     }
 
     // What the caller's list holds once the table is gone: the standing entries, then what was removed.
