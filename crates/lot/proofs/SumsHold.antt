@@ -36,15 +36,15 @@ module _ (s t a p r q m : ℕ) where
   joined-under h h′ = omega (arith, bounds-sum, parts-sum, mul-le-mul-right q h, mul-le-mul-right p h′)
 
 -- a note that judging does not refuse has a bracket that holds
-holds : (n : Note) → Judgeable n → Bracket-holds (n .knowledge) (n .requirement .tolerance) (n .reading) (judgement n .bracket)
-holds n h = judged-bracket (n .knowledge) (n .rules) (n .requirement) (n .expanded) (n .reading) h
+holds : (n : Note) → Judgeable n → Bracket-holds (n .knowledge) (n .requirement .tolerance) (n .fields .reading) (judgement n .bracket)
+holds n h = judged-bracket (n .knowledge) (n .rules) (n .requirement) (n .fields .expanded) (n .fields .reading) h
 
 over-lesser : (ns : List Note) → All Judgeable ns → (c : Choice ns) → least-risks ns * all-parts ns c ≤ million * all-risk ns c
 over-lesser [] h c = omega arith
 over-lesser (n ∷ ns) h c =
     let d = c .0 .0 in
     joined-over (million - judgement n .bracket .ceiling) (least-risks ns) (at-risk n d) (d .parts) (all-risk ns (c .1)) (all-parts ns (c .1)) million
-    (left-over million (conforming d (n .requirement .tolerance) (n .reading)) (judgement n .bracket .ceiling) (d .parts) (holds n (h .0) .under-ceiling d (c .0 .1)))
+    (left-over million (conforming d (n .requirement .tolerance) (n .fields .reading)) (judgement n .bracket .ceiling) (d .parts) (holds n (h .0) .under-ceiling d (c .0 .1)))
     (over-lesser ns (h .1) (c .1))
 
 under-greater : (ns : List Note) → All Judgeable ns → (c : Choice ns) → million * all-risk ns c ≤ greatest-risks ns * all-parts ns c
@@ -52,7 +52,7 @@ under-greater [] h c = omega arith
 under-greater (n ∷ ns) h c =
     let d = c .0 .0 in
     joined-under (million - judgement n .bracket .floor) (greatest-risks ns) (at-risk n d) (d .parts) (all-risk ns (c .1)) (all-parts ns (c .1)) million
-    (left-under million (conforming d (n .requirement .tolerance) (n .reading)) (judgement n .bracket .floor) (d .parts) (holds n (h .0) .over-floor d (c .0 .1)))
+    (left-under million (conforming d (n .requirement .tolerance) (n .fields .reading)) (judgement n .bracket .floor) (d .parts) (holds n (h .0) .over-floor d (c .0 .1)))
     (under-greater ns (h .1) (c .1))
 
 narrow : (ns : List Note) → All Judgeable ns → greatest-risks ns ≤ least-risks ns + 2 * widths ns

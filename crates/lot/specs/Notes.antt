@@ -4,7 +4,7 @@ use mathlib.Core.List.{List, [], _∷_}
 use mathlib.Core.Path.{_≡_}
 use Prim.Native.Nat.{ℕ}
 use lib.Dec.{eqb}
-use lib.IntN.{ℤ, natAbs}
+use lib.IntN.{natAbs}
 use Rattle.std.specs.declared.option.Option.the-variants.{None}
 use Rattle.knowledge.specs.Knowledge.{Answers, Rules}
 use Rattle.requirement.specs.declared.requirements.Requirement.{Requirement}
@@ -13,29 +13,29 @@ use Rattle.judging.specs.declared.answers.Verdict.{Verdict}
 use Rattle.judging.specs.declared.answers.Verdict.the-variants.{Pass, ConditionalPass, ConditionalFail, Fail}
 use Rattle.judging.specs.declared.answers.Judgement.{Judgement}
 use Rattle.lot.specs.declared.items.Item.{Item}
+use Rattle.lot.specs.declared.items.ItemFields.{ItemFields}
 
 -- a note: the arguments of an entry, the requirement that it found, and all that its state of knowledge answers
 pub record Note : Type 0 where
-  pub number : ℤ
-  pub class : ℤ
-  pub characteristic : ℤ
-  pub expanded : ℤ
-  pub reading : ℤ
+  pub fields : ItemFields
   pub requirement : Requirement
   pub knowledge : Answers
   pub rules : Rules knowledge
 
 -- how the rules judge a note
 abbrev pub judgement : Note → Judgement
-judgement n = judged (n .requirement) (n .expanded) (n .reading) (n .knowledge)
+judgement n = judged (n .requirement) (n .fields .expanded) (n .fields .reading) (n .knowledge)
 
 -- judging does not refuse it
 abbrev pub Judgeable : Note → Type 0
-Judgeable n = judge-refusal (n .requirement) (n .expanded) (n .reading) (n .knowledge) ≡ None
+Judgeable n = judge-refusal (n .requirement) (n .fields .expanded) (n .fields .reading) (n .knowledge) ≡ None
 
--- what is stored of it
+-- what a lot stores of an item with these fields and this judgement
+abbrev pub item-of : ItemFields → Judgement → Item
+item-of f j = record { number = natAbs (f .number); class = natAbs (f .class); characteristic = natAbs (f .characteristic); reading = f .reading; judgement = j }
+
 abbrev pub stored : Note → Item
-stored n = record { number = natAbs (n .number); class = natAbs (n .class); characteristic = natAbs (n .characteristic); reading = n .reading; judgement = judgement n }
+stored n = item-of (n .fields) (judgement n)
 
 -- a verdict is a pass
 abbrev pub is-pass : Verdict → Bool
@@ -47,4 +47,4 @@ is-pass Fail = false
 -- the passes that stand in a class: its notes that the rules judge a pass
 abbrev pub passing : ℕ → List Note → List Note
 passing c [] = []
-passing c (n ∷ ns) = cond (eqb (natAbs (n .class)) c && is-pass (judgement n .verdict)) (n ∷ passing c ns) (passing c ns)
+passing c (n ∷ ns) = cond (eqb (natAbs (n .fields .class)) c && is-pass (judgement n .verdict)) (n ∷ passing c ns) (passing c ns)

@@ -14,7 +14,7 @@ Choice (n ∷ ns) = ((d : Distribution) × Admitted (n .knowledge) d) × Choice 
 
 -- a note's parts at risk: those that do not conform. Its risk is this number ÷ parts
 abbrev pub at-risk : Note → Distribution → ℕ
-at-risk n d = d .parts - conforming d (n .requirement .tolerance) (n .reading)
+at-risk n d = d .parts - conforming d (n .requirement .tolerance) (n .fields .reading)
 
 -- the product of the chosen distributions' parts
 abbrev pub all-parts : (ns : List Note) → Choice ns → ℕ

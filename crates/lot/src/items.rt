@@ -1,6 +1,16 @@
 // What a lot stores of an item, and what it keeps for each class.
 use judging::Judgement;
 
+// What is entered of an item, with any values; `expanded` is the expanded uncertainty of its reading.
+#[derive(Clone, Copy)]
+pub struct ItemFields {
+    pub number: i64,
+    pub class: i64,
+    pub characteristic: i64,
+    pub expanded: i64,
+    pub reading: i64,
+}
+
 // One item of a lot with its judgement.
 #[derive(Clone, Copy)]
 pub struct Item {
