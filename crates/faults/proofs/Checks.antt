@@ -28,6 +28,15 @@ pub check-passed : (b : Bool) (e : Refusal) (later : Option Refusal) → check b
 check-passed true e later h = refl
 check-passed false e later h = absurd (some-none e h)
 
+-- checks of which none refuses: neither the earlier nor the later
+pub first-none : (earlier later : Option Refusal) → first-of earlier later ≡ None → earlier ≡ None
+first-none None later h = refl
+first-none (Some e) later h = h
+
+pub later-none : (earlier later : Option Refusal) → first-of earlier later ≡ None → later ≡ None
+later-none None later h = h
+later-none (Some e) later h = absurd (some-none e h)
+
 -- an answer says that no check refused
 pub no-refusal : {T : Type 0} (P : T → Type 0) (o : Option Refusal) (x : T) → Answers-by o (Ok x) P → o ≡ None
 no-refusal P None x a = refl

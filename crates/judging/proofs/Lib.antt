@@ -1,3 +1,3 @@
 mod BracketHolds
 mod SharesDecide
-mod Order
+pub mod Order

@@ -2,14 +2,16 @@
 use mathlib.Core.Bool.{true}
 use mathlib.Core.Path.{_≡_, refl, sym, ap, _∙_, subst}
 use lib.IntN.{ℤ}
+use Rattle.std.specs.Options.{isSome}
+use Rattle.std.proofs.shelf.Tests.{true≢false}
 use Rattle.std.specs.declared.option.Option.{Option}
 use Rattle.std.specs.declared.option.Option.the-variants.{None, Some}
 use Rattle.std.specs.declared.result.Result.{Result}
 use Rattle.std.specs.declared.result.Result.the-variants.{Ok, Err}
-use Rattle.faults.specs.declared.Refusal.the-variants.{OutOfRange}
+use Rattle.faults.specs.declared.Refusal.the-variants.{OutOfRange, NoOffset, NothingAcceptable}
 use Rattle.faults.specs.declared.Fault.{Fault}
-use Rattle.faults.specs.Faults.{Answers-by}
-use Rattle.faults.proofs.Checks.{check-passed, no-refusal, its-value, refused-alike, answered-alike, refuses-first, passes-first}
+use Rattle.faults.specs.Faults.{check, Answers-by}
+use Rattle.faults.proofs.Checks.{check-passed, first-none, later-none, no-refusal, its-value, refused-alike, answered-alike, refuses-first, passes-first}
 use Rattle.knowledge.specs.Knowledge.{Answers, Rules}
 use Rattle.requirement.specs.Limits.{in-reach}
 use Rattle.requirement.specs.declared.rules.Rule.{Rule}
@@ -17,7 +19,7 @@ use Rattle.requirement.specs.declared.rules.Rule.the-variants.{Simple, Guard, M
 use Rattle.requirement.specs.declared.requirements.Requirement.{Requirement}
 use Rattle.acceptance.specs.declared.bounds.Acceptance.{Acceptance}
 use Rattle.acceptance.specs.Guard.{width-of, width-refusal}
-use Rattle.acceptance.specs.Acceptance.{by-rule, acceptance, acceptance-refusal, limits-refusal}
+use Rattle.acceptance.specs.Acceptance.{by-rule, acceptance, uncrossed, acceptance-refusal, limits-refusal}
 use Rattle.judging.specs.declared.answers.Bracket.{Bracket}
 use Rattle.judging.specs.declared.answers.Verdict.{Verdict}
 use Rattle.judging.specs.declared.answers.Judgement.{Judgement}
@@ -25,6 +27,11 @@ use Rattle.judging.specs.Brackets.{reading-refusal, bracketed}
 use Rattle.judging.specs.Verdicts.{verdict-by, verdict-of, judged, judge-refusal}
 use Rattle.judging.specs.Guarantee.{Bracket-holds, Verdict-holds, Judgement-holds}
 use Rattle.judging.proofs.SharesDecide.{shares-decide}
+use Rattle.judging.proofs.BracketHolds.{bracket-holds}
+
+some-from : {T : Type 0} (o : Option T) → isSome o ≡ true → (x : T) × (o ≡ Some x)
+some-from None h = absurd (true≢false (sym h))
+some-from (Some x) h = (x, refl)
 
 module _ (k : Answers) (r : Rules k) (q : Requirement) (expanded y : ℤ) where
   abbrev pub Judged : Judgement → Type 0
@@ -78,3 +85,21 @@ module _ (k : Answers) (r : Rules k) (q : Requirement) (expanded y : ℤ) where
         after-bracket (Ok (record { verdict = v; bracket = b }))
         (answered-alike Accepted Judged (limits-refusal q expanded k) a (record { verdict = v; bracket = b }) limits
         (whole, record { bracket-holds = known .1; verdict-holds = verdict-holds (q .rule) a v reach (sym is) by-width-of }))
+
+  -- the same of a judgement by the rules alone, where judging is not refused
+  reach-of : judge-refusal q expanded y k ≡ None → in-reach y ≡ true
+  reach-of h = check-passed (in-reach y) OutOfRange None (first-none (reading-refusal y) (limits-refusal q expanded k) h)
+
+  pub judged-bracket : judge-refusal q expanded y k ≡ None → Bracket-holds k (q .tolerance) y (judged q expanded y k .bracket)
+  judged-bracket h = bracket-holds k r (q .tolerance) y (reach-of h)
+
+  pub judged-holds : judge-refusal q expanded y k ≡ None → Judgement-holds k q y (judged q expanded y k)
+  judged-holds h =
+      let limits = later-none (reading-refusal y) (limits-refusal q expanded k) h in
+      let found = some-from (acceptance q expanded k) (check-passed (isSome (acceptance q expanded k)) NoOffset (check (uncrossed (acceptance q expanded k)) NothingAcceptable None)
+      (later-none (width-refusal expanded) (acceptance-refusal (acceptance q expanded k)) limits)) in
+      record {
+        bracket-holds = judged-bracket h;
+        verdict-holds = verdict-holds (q .rule) (found .0) (verdict-of q expanded y k) (reach-of h) (found .1)
+            (ap (λ x. verdict-by x (q .mode) (q .tolerance .lower) (q .tolerance .upper) (width-of (q .rule) expanded) y) (found .1));
+      }

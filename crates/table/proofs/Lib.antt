@@ -1,0 +1,8 @@
+pub mod Orders
+pub mod Ascents
+mod Bisection
+mod Shifts
+mod Edits
+pub mod Standing
+pub mod Contents
+mod Tables

@@ -1,0 +1,4 @@
+pub mod Keys
+pub mod Places
+pub mod Tables
+pub mod Changes
