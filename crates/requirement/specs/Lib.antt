@@ -2,3 +2,4 @@ pub mod Limits
 pub mod Rules
 pub mod Requirements
 pub mod Making
+pub mod Keys

@@ -1,9 +1,11 @@
 // What is required of a characteristic: tolerance limits, a decision rule and a mode.
+mod keys;
 mod requirements;
 mod rows;
 mod rules;
 mod tolerance;
 
+pub use keys::RequirementEntry;
 pub use requirements::Requirement;
 pub use rows::RequirementRow;
 pub use rules::Mode;

@@ -1,0 +1,2 @@
+pub mod Lookups
+mod Adding
