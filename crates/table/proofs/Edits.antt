@@ -2,21 +2,15 @@
 use mathlib.Core.Path.{_≡_, sym, _∙_, ap, subst}
 use mathlib.Core.Logic.{⊎-elim}
 use mathlib.Core.List.{List, [], _∷_, _++_, append-assoc}
-use Prim.Native.Nat.{ℕ, _≤_, _<_, _+_, _-_, min, suc}
+use Prim.Native.Nat.{ℕ, _≤_, _<_, _+_, _-_, suc}
 use native.Mathlib.Numerals.{add-one}
 use native.Mathlib.Omega.{arith}
 use lib.ListN.{length, getD, take, drop}
 use borrow.Rule.Slice.PartMut.{putMid}
-use Rattle.std.specs.declared.cmp.Ordering.{Ordering}
-use Rattle.std.specs.declared.cmp.Ordering.the-variants.{Less}
 use Rattle.std.specs.Holes.{inserted, removed}
-use Rattle.std.specs.Places.{Parted}
-use Rattle.std.proofs.shelf.Edits.{length-inserted, length-removed}
 use Rattle.std.proofs.shelf.Lists.{length-take, length-drop, length-append, length-push, take-all, drop-all, take-at, drop-at, take-take, drop-drop, drop-more, getD-take}
 use Rattle.std.proofs.shelf.Parts.{between-is, take-putMid, drop-putMid}
 use Rattle.std.proofs.shelf.Tests.{cases-lt}
-use Rattle.table.specs.Keys.{Ascending}
-use Rattle.table.proofs.Ascents.{ascending-inserted, ascending-removed}
 
 -- after an entry e came in at i: xs′ is the list, of which n′ entries stand
 pub record Opened {E : Type 0} (xs : List E) (n i : ℕ) (e : E) (xs′ : List E) (n′ : ℕ) : Type 0 where

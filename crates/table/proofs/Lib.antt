@@ -5,4 +5,4 @@ mod Shifts
 mod Edits
 pub mod Standing
 pub mod Contents
-mod Tables
+mod Fronts

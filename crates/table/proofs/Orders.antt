@@ -1,7 +1,7 @@
 -- Total orders of keys, for the law that an entry shows: numbers, signed numbers, pairs and triples.
-use mathlib.Core.Path.{_≡_, refl, sym, _∙_, ap, subst}
+use mathlib.Core.Path.{_≡_, refl, sym, ap, subst}
 use mathlib.Core.Bool.{true≢false}
-use Prim.Native.Nat.{ℕ, _<_}
+use Prim.Native.Nat.{_<_}
 use lib.IntN.{ℤ}
 use lib.Signed.{_<ℤ_}
 use Rattle.std.specs.declared.cmp.Ordering.{Ordering}

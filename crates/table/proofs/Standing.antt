@@ -2,31 +2,35 @@
 use mathlib.Core.Path.{_≡_, sym, _∙_, ap, subst}
 use mathlib.Core.Logic.{⊎-elim}
 use mathlib.Core.Bool.{true≢false}
-use mathlib.Core.List.{List, [], _∷_, map}
+use mathlib.Core.List.{List, [], _∷_}
 use Prim.Native.Nat.{ℕ, _<_, _+_}
 use native.Mathlib.Omega.{arith}
 use lib.ListN.{length, getD}
 use Rattle.std.specs.declared.cmp.Ordering.{Ordering}
 use Rattle.std.specs.declared.cmp.Ordering.the-variants.{Less}
 use Rattle.std.specs.declared.option.Option.{Option}
-use Rattle.std.specs.declared.option.Option.the-variants.{Some, None}
+use Rattle.std.specs.declared.option.Option.the-variants.{Some}
 use Rattle.std.specs.declared.result.Result.{Result}
 use Rattle.std.specs.declared.result.Result.the-variants.{Ok, Err}
 use Rattle.std.specs.Finite.{nth}
 use Rattle.std.specs.Holes.{removed}
 use Rattle.std.specs.Orderings.{isLt, reversed}
 use Rattle.std.specs.Places.{At, Parted}
-use Rattle.std.specs.shelf.Lists.{Has}
 use Rattle.std.specs.shelf.Sorted.{Shuffled}
 use Rattle.std.proofs.shelf.Edits.{length-removed, getD-removed-below, getD-removed-above}
 use Rattle.std.proofs.shelf.Lists.{length-map, getD-map, getD-default}
-use Rattle.std.proofs.shelf.Maps.{nth-getD}
+use Rattle.std.proofs.shelf.Maps.{nth-getD, nth-past}
 use Rattle.std.proofs.shelf.Sorted.{has-shuffled}
 use Rattle.std.proofs.shelf.Tests.{cases-lt}
 use Rattle.table.specs.Changes.{Picked}
 use Rattle.table.specs.Keys.{Order, Ascending}
 use Rattle.table.specs.Places.{Found, Known, Stands}
 use Rattle.table.proofs.Ascents.{ascends}
+
+-- an entry that stands at i
+pub nth-at : {E : Type 0} (xs : List E) (i : ℕ) (e : E) → nth xs i ≡ Some e → (i < length xs) × (getD xs i e ≡ e)
+nth-at xs i e at =
+    ⊎-elim (λ within. let read = nth-getD xs i e within in (within, cc)) (λ past. let none = nth-past xs i past in absurd (let z : _≡_ {A = ℕ} 0 1 = cc in omega arith)) (cases-lt i (length xs))
 
 -- no key is less than itself
 pub not-less : {K : Type 0} {answers : K → K → Ordering → Type 0} {compare : K → K → Ordering} → Order answers compare → (k : K) → compare k k ≡ Less → ⊥
@@ -86,12 +90,14 @@ module _ {E K : Type 0} (key : E → K) {answers : K → K → Ordering → Type
       (cases-lt i j)
 
   -- so with its entry the key is gone
-  pub stands-removed : (i : ℕ) (e : E) → i < length xs → At (λ x. x ≡ e) xs i → Stands key (removed xs i) (key e) → ⊥
-  stands-removed i e within at stands =
+  pub stands-removed : (i : ℕ) (e : E) → nth xs i ≡ Some e → Stands key (removed xs i) (key e) → ⊥
+  stands-removed i e at stands =
       let place = stands-place key (key e) (removed xs i) stands in
       let j = place .0 in
+      let here = nth-at xs i e at in
+      let within = here .0 in
       let size = length-removed xs i within in
-      let same = ap key (at e) in
+      let same = ap key (here .1) in
       ⊎-elim
       (λ before. let one = one-place j i e (omega arith) within (ap key (sym (getD-removed-below xs i e j before within)) ∙ place .2 e ∙ sym same) in omega arith)
       (λ after. let one = one-place (j + 1) i e (omega arith) within (ap key (sym (getD-removed-above xs i e j after within)) ∙ place .2 e ∙ sym same) in omega arith)

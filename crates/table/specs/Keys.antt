@@ -11,10 +11,11 @@ use Rattle.std.specs.shelf.Lawful.{sorted-test}
 pub record Order {K : Type 0} (answers : K → K → Ordering → Type 0) (compare : K → K → Ordering) : Type 0 where
   -- there is one answer
   pub says : (a b : K) (o : Ordering) → answers a b o → o ≡ compare a b
-  -- the other way round it is the opposite one
+  -- the other way round it is the opposite
   pub flip : (a b : K) → compare a b ≡ reversed (compare b a)
+  -- less is passed on
   pub trans : (a b c : K) → compare a b ≡ Less → compare b c ≡ Less → compare a c ≡ Less
-  -- different keys are never equal in the order
+  -- only a key itself compares as equal
   pub exact : (a b : K) → compare a b ≡ Equal → a ≡ b
 
 -- strictly ascending: the key of each entry is less than the key of every later one

@@ -9,12 +9,14 @@ ghost use Rattle.std.specs.declared.cmp.Ordering.{Ordering};
 ghost use Rattle.std.specs.declared.option.Option.the-variants.{Some};
 ghost use Rattle.std.specs.declared.result.Result.the-variants.{Ok, Err};
 ghost use Rattle.std.specs.Finite.{nth};
-ghost use Rattle.table.specs.Changes.{Allowed, Insertion, Picked, Removal, Same-list, Taken};
+ghost use Rattle.table.specs.Changes.{Allowed, Insertion, Picked, Removal, Taken};
 ghost use Rattle.table.specs.Keys.{Order};
 ghost use Rattle.table.specs.Places.{Found, Known};
-ghost use Rattle.table.specs.Tables.{standing, beyond, capacity, Ordered};
+ghost use Rattle.table.specs.Tables.{standing, capacity, Ordered};
 use parts::bisect;
+use parts::front;
 use parts::insert_at;
+use parts::item_at;
 use parts::remove_at;
 
 mod parts;
@@ -52,9 +54,10 @@ pub struct Table<'a, E> {
 }
 
 impl<'a, E: Entry> Table<'a, E> {
-    // An empty table over the list, with room for at most `limit` entries.
+    // An empty table over the list, with room for at most `limit` entries: with a limit of 0 it has no place.
     pub fn new(places: &'a mut [E], limit: usize) -> Self
-        ensures list { λ r. ⌜ (now (r .places) ≡ now (places .entry)) × (name (r .places) ≡ name (places .entry)) ⌝ }
+        ensures list { λ r. ⌜ now (r .places) ≡ now (places .entry) ⌝ }
+        ensures same { λ r. ⌜ name (r .places) ≡ name (places .entry) ⌝ }
         ensures empty { λ r. ⌜ (standing r ≡ []) × (capacity r ≡ min limit (length (now (places .entry)))) ⌝ }
         ensures ordered { λ r. ⌜ Ordered (E·Entry .key) (E·Entry .compare) r ⌝ }
     {
@@ -69,8 +72,7 @@ impl<'a, E: Entry> Table<'a, E> {
     pub fn entries(&self) -> &[E]
         ensures { λ r. ⌜ now r ≡ standing (now (self .entry)) ⌝ }
     {
-        let count = self.count.min(self.places.len());
-        &self.places[0..count]
+        front(self.places, self.count)
     }
 
     // How many entries stand.
@@ -87,6 +89,7 @@ impl<'a, E: Entry> Table<'a, E> {
         self.limit.min(self.places.len())
     }
 
+    // No further entry may stand.
     pub fn is_full(&self) -> bool
         ensures { λ r. ⌜ r ≡ leb (capacity (now (self .entry))) (length (standing (now (self .entry)))) ⌝ }
     {
@@ -97,10 +100,10 @@ impl<'a, E: Entry> Table<'a, E> {
     pub fn at(&self, place: usize) -> Option<E>
         ensures { λ r. ⌜ r ≡ nth (standing (now (self .entry))) place ⌝ }
     {
-        self.entries().get(place).copied()
+        item_at(self.entries(), place)
     }
 
-    // The place of the entry with this key, or else the place where it belongs.
+    // The place of the entry with this key, or as an error the place where it belongs.
     pub fn find(&self, key: E::Key) -> Result<usize, usize>
         ensures place { λ r. ⌜ Found (E·Entry .key) (E·Entry .compare) (standing (now (self .entry))) key r ⌝ }
         ensures known { λ r. ⌜ (Ordered (E·Entry .key) (E·Entry .compare) (now (self .entry)) → Known (E·Entry .key) (standing (now (self .entry))) key r) ⌝ }
@@ -120,7 +123,8 @@ impl<'a, E: Entry> Table<'a, E> {
 
     // Puts the entry where its key belongs and answers that place. Each later entry moves once.
     pub fn insert(&mut self, entry: E) -> Result<usize, Refused>
-        ensures list { λ _. ⌜ Same-list (now (self .entry)) (now (self .exit)) ⌝ }
+        ensures same { λ _. ⌜ name (now (self .exit) .places) ≡ name (now (self .entry) .places) ⌝ }
+        ensures room { λ _. ⌜ capacity (now (self .exit)) ≡ capacity (now (self .entry)) ⌝ }
         ensures change { λ r. ⌜ Insertion (now (self .entry)) entry r (now (self .exit)) ⌝ }
         ensures outcome { λ r. ⌜ (Ordered (E·Entry .key) (E·Entry .compare) (now (self .entry)) → Allowed (E·Entry .key) (now (self .entry)) (E·Entry .key entry) r × Ordered (E·Entry .key) (E·Entry .compare) (now (self .exit))) ⌝ }
     {
@@ -137,7 +141,8 @@ impl<'a, E: Entry> Table<'a, E> {
     // Puts the entry at a place that is free to have it.
     fn open(&mut self, place: usize, entry: E)
         requires { ⌜ place ≤ length (standing (now self)) ⌝ ∗ ⌜ length (standing (now self)) < capacity (now self) ⌝ }
-        ensures list { λ _. ⌜ Same-list (now (self .entry)) (now (self .exit)) ⌝ }
+        ensures same { λ _. ⌜ name (now (self .exit) .places) ≡ name (now (self .entry) .places) ⌝ }
+        ensures room { λ _. ⌜ capacity (now (self .exit)) ≡ capacity (now (self .entry)) ⌝ }
         ensures change { λ _. ⌜ Insertion (now (self .entry)) entry (Ok place) (now (self .exit)) ⌝ }
         ensures order { λ _. ⌜ (Ordered (E·Entry .key) (E·Entry .compare) (now (self .entry)) → Found (E·Entry .key) (E·Entry .compare) (standing (now (self .entry))) (E·Entry .key entry) (Err place) → Ordered (E·Entry .key) (E·Entry .compare) (now (self .exit))) ⌝ }
     {
@@ -149,7 +154,8 @@ impl<'a, E: Entry> Table<'a, E> {
 
     // Takes the entry with this key out of the table and closes its place. Each later entry moves once.
     pub fn remove(&mut self, key: E::Key) -> Option<E>
-        ensures list { λ _. ⌜ Same-list (now (self .entry)) (now (self .exit)) ⌝ }
+        ensures same { λ _. ⌜ name (now (self .exit) .places) ≡ name (now (self .entry) .places) ⌝ }
+        ensures room { λ _. ⌜ capacity (now (self .exit)) ≡ capacity (now (self .entry)) ⌝ }
         ensures change { λ r. ⌜ Removal (now (self .entry)) r (now (self .exit)) ⌝ }
         ensures outcome { λ r. ⌜ (Ordered (E·Entry .key) (E·Entry .compare) (now (self .entry)) → Picked (E·Entry .key) (standing (now (self .entry))) key r × Ordered (E·Entry .key) (E·Entry .compare) (now (self .exit))) ⌝ }
     {
@@ -162,7 +168,8 @@ impl<'a, E: Entry> Table<'a, E> {
     // Takes out the entry at a place.
     fn close(&mut self, place: usize) -> E
         requires { ⌜ place < length (standing (now self)) ⌝ }
-        ensures list { λ _. ⌜ Same-list (now (self .entry)) (now (self .exit)) ⌝ }
+        ensures same { λ _. ⌜ name (now (self .exit) .places) ≡ name (now (self .entry) .places) ⌝ }
+        ensures room { λ _. ⌜ capacity (now (self .exit)) ≡ capacity (now (self .entry)) ⌝ }
         ensures change { λ r. ⌜ Taken (now (self .entry)) place r (now (self .exit)) ⌝ }
         ensures order { λ _. ⌜ (Ordered (E·Entry .key) (E·Entry .compare) (now (self .entry)) → Ordered (E·Entry .key) (E·Entry .compare) (now (self .exit))) ⌝ }
     {

@@ -13,6 +13,21 @@ use crate::Entry;
 use std::cmp::Ordering;
 use std::mem;
 
+// The first `count` entries of the list, or all where it has no more.
+pub fn front<E>(list: &[E], count: usize) -> &[E]
+    ensures { λ r. ⌜ now r ≡ take count (now (list .entry)) ⌝ }
+{
+    let end = count.min(list.len());
+    &list[0..end]
+}
+
+// The entry at a place, if there is one.
+pub fn item_at<E: Copy>(entries: &[E], place: usize) -> Option<E>
+    ensures { λ r. ⌜ r ≡ nth (now (entries .entry)) place ⌝ }
+{
+    entries.get(place).copied()
+}
+
 // Where the key stands among entries in order, or else where it belongs, by bisection.
 pub fn bisect<E: Entry>(entries: &[E], key: E::Key) -> Result<usize, usize>
     ensures { λ r. ⌜ Found (E·Entry .key) (E·Entry .compare) (now (entries .entry)) key r ⌝ }

@@ -1,5 +1,4 @@
 // A table within a struct that carries its order as an invariant: so a caller has the outcome of every call with nothing to show.
-ghost use denote.Ref.{now};
 ghost use Rattle.std.specs.Keys.{unsigned};
 ghost use Rattle.table.specs.Tables.{Ordered};
 use crate::Reading;

@@ -1,8 +1,10 @@
 // The table at three kinds of entry, each with a key of another make.
-ghost use mathlib.Core.Path.{_≡_};
 ghost use Rattle.std.specs.Keys.{pairs, signed, unsigned};
 ghost use Rattle.std.specs.Tuples.{triples};
+ghost use Rattle.table_tests.specs.Entered.{Entered};
 use table::Entry;
+use table::Refused;
+use table::Table;
 
 pub mod held;
 
@@ -65,15 +67,22 @@ pub impl Entry for Mark as MarkEntry {
     }
 }
 
+// Enters one reading through a table over the caller's list: what the list holds afterwards follows from the table's contracts.
+pub fn enter_first(places: &mut [Reading], reading: Reading) -> Result<usize, Refused>
+    ensures { λ r. ⌜ Entered (now (places .entry)) reading r (now (places .exit)) ⌝ }
+{
+    let limit = places.len();
+    let mut table = Table::new(places, limit);
+    table.insert(reading)
+}
+
 #[cfg(test)]
 mod tests {
     use super::*;
     use std::fmt::Debug;
     use std::test::*;
-    use table::Refused;
     use table::RefusedDebug as _;
     use table::RefusedPartialEq;
-    use table::Table;
 
     // A call on a table, with the answer that is due.
     #[derive(Clone, Copy)]

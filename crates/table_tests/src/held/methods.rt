@@ -2,8 +2,8 @@
 ghost use mathlib.Core.List.{[]};
 ghost use mathlib.Core.Path.{_≡_};
 ghost use denote.Ref.{name};
-ghost use Rattle.table.specs.Changes.{Admitted, Insertion, Picked, Removal};
-ghost use Rattle.table.specs.Tables.{standing, capacity};
+ghost use Rattle.table.specs.Changes.{Allowed, Insertion, Picked, Removal};
+ghost use Rattle.table.specs.Tables.{standing};
 use crate::Reading;
 use crate::ReadingEntry;
 use crate::held::Held;
@@ -23,7 +23,7 @@ impl<'a> Held<'a> {
     pub fn enter(&mut self, reading: Reading) -> Result<usize, Refused>
         ensures list { λ r. ⌜ name (now (self .exit) .table .places) ≡ name (now (self .entry) .table .places) ⌝ }
         ensures change { λ r. ⌜ Insertion (now (self .entry) .table) reading r (now (self .exit) .table) ⌝ }
-        ensures outcome { λ r. ⌜ Admitted (λ e. e .number) (now (self .entry) .table) (reading .number) r ⌝ }
+        ensures outcome { λ r. ⌜ Allowed (λ e. e .number) (now (self .entry) .table) (reading .number) r ⌝ }
     {
         let entered = self.table.insert(reading);
         if entered.is_ok() && self.entered < u32::MAX {

@@ -1,6 +1,5 @@
 use mathlib.Core.Path.{sym, subst, _∙_, ap}
 use mathlib.Core.List.{List}
-use Prim.Native.Nat.{_<_, _≤_}
 use native.Mathlib.Omega.{arith}
 use lib.ListN.{length, take}
 use Rattle.std.proofs.shelf.Edits.{length-inserted}

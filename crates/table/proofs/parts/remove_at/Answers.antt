@@ -1,15 +1,13 @@
-use mathlib.Core.Path.{sym, subst, _∙_, ap}
+use mathlib.Core.Path.{sym, subst}
 use mathlib.Core.List.{List}
-use Prim.Native.Nat.{_<_, _≤_}
 use native.Mathlib.Omega.{arith}
 use borrow.Author.Needs.{needs}
-use lib.ListN.{length, getD, take}
-use Rattle.std.specs.declared.option.Option.the-variants.{Some}
+use lib.ListN.{take}
 use Rattle.std.proofs.shelf.Lists.{length-take}
 use Rattle.table.specs.Keys.{Ascending}
 use Rattle.table.proofs.Ascents.{ascending-removed}
 use Rattle.table.proofs.Edits.{closed}
-use Rattle.table.proofs.Tables.{standing-place, standing-nth}
+use Rattle.table.proofs.Fronts.{standing-place, standing-nth}
 use Rattle.table.proofs.parts.remove_at.Needs as need
 
 pub offset-list-place : need.offset-list-place

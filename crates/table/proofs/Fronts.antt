@@ -1,4 +1,4 @@
--- The part of the list that holds the standing entries.
+-- The first entries of a list, where the count may pass its end.
 use mathlib.Core.Path.{_≡_, sym, _∙_, ap}
 use mathlib.Core.Logic.{⊎-elim}
 use mathlib.Core.List.{List}
