@@ -1,6 +1,6 @@
 -- What is computed of a requirement, computed of the record that it was made of.
 use mathlib.Core.Bool.{true}
-use mathlib.Core.Path.{_≡_, refl, sym, ap, subst}
+use mathlib.Core.Path.{_≡_, refl, sym, subst}
 use Prim.Native.Nat.{ℕ}
 use lib.IntN.{ℤ, pos}
 use Rattle.std.specs.declared.option.Option.{Option}

@@ -11,7 +11,7 @@ use Rattle.knowledge.specs.Knowledge.{Answers}
 use Rattle.rectangular.specs.Rectangular.{rectangular}
 use Rattle.normal.specs.Normal.{normal}
 use Rattle.bias.specs.Bias.{shifted}
-use Rattle.requirement.specs.Rules.{letter-S, letter-M, letter-P}
+use Rattle.requirement.specs.Rules.{letter-M, letter-P}
 use Rattle.requirement.specs.Making.{Holds-row, requirement-refusal}
 use Rattle.requirement.specs.declared.rows.RequirementRow.{RequirementRow}
 use Rattle.requirement.specs.declared.rules.Rule.the-variants.{Multiple}

@@ -5,7 +5,7 @@ ghost use Rattle.figures.specs.Figures.{figures, All-hold};
 
 mod reading;
 
-pub use reading::grade_within_share;
+pub use reading::greatest_passing_grade;
 
 // How many worked figures there are; that each of them holds is what the contract says.
 pub fn figures_held() -> u32

@@ -1,5 +1,7 @@
-// One reading, carried from the record of its requirement to its verdict.
-ghost use Rattle.figures.specs.Reading.{Passes-within-share};
+// One reading, carried from the record of its requirement to its verdict, with nothing known of the calls but their contracts.
+ghost use Rattle.faults.specs.Faults.{Answers-by};
+ghost use Rattle.judging.specs.Brackets.{reading-refusal};
+ghost use Rattle.figures.specs.Reading.{Decided, Passes};
 use faults::Fault;
 use judging::Judgement;
 use judging::judge;
@@ -8,9 +10,9 @@ use rectangular::RectangularKnowledge;
 use requirement::Requirement;
 use requirement::RequirementRow;
 
-// A grade of 910 against at most 1,000 with a risk of at most 50,000 millionths, known to within 100.
-pub fn grade_within_share() -> Result<Judgement, Fault>
-    ensures { λ r. ⌜ Passes-within-share r ⌝ }
+// A grade against at most 1,000 with a risk of at most 50,000 millionths, known to within 100.
+fn judged_grade(reading: i64) -> Result<Judgement, Fault>
+    ensures { λ r. ⌜ Answers-by (reading-refusal reading) r (Decided reading) ⌝ }
 {
     let row = RequirementRow {
         class: 1,
@@ -24,5 +26,15 @@ pub fn grade_within_share() -> Result<Judgement, Fault>
     };
     let requirement = Requirement::new(&row)?;
     let knowledge = Rectangular::new(100)?;
-    judge(&requirement, 0, 910, &knowledge)
+    judge(&requirement, 0, reading, &knowledge)
+}
+
+// The greatest grade that passes.
+pub fn greatest_passing_grade() -> Judgement
+    ensures { λ j. ⌜ Passes j ⌝ }
+{
+    match judged_grade(910) {
+        Ok(judgement) => judgement,
+        Err(_) => unreachable(),
+    }
 }
