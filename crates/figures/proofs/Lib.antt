@@ -1,0 +1,4 @@
+mod Places
+mod Made
+mod Hold
+mod Share
