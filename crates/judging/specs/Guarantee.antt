@@ -19,7 +19,7 @@ use Rattle.judging.specs.declared.answers.Verdict.the-variants.{Pass}
 use Rattle.judging.specs.declared.answers.Bracket.{Bracket}
 
 -- how many of a distribution's parts lie above the lower limit and up to the upper one, for reading y:
--- the probability of lying exactly on a limit is taken as 0
+-- a true value exactly on a limit counts as having no probability
 abbrev pub parts-between : Distribution → Option ℤ → Option ℤ → ℤ → ℕ
 parts-between d (Some l) (Some u) y = d .at-most (u -ℤ y) - d .at-most (l -ℤ y)
 parts-between d None (Some u) y = d .at-most (u -ℤ y)

@@ -19,7 +19,7 @@ use Rattle.judging.specs.declared.answers.Verdict.{Verdict}
 use Rattle.judging.specs.declared.answers.Verdict.the-variants.{Pass, ConditionalPass, ConditionalFail, Fail}
 use Rattle.judging.specs.declared.answers.Judgement.{Judgement}
 
--- a reading within the acceptance limits, ends included, is accepted; without acceptance limits none is
+-- accepted: not outside the acceptance limits, which belong to the interval; without acceptance limits nothing is
 abbrev pub accepts : Option Acceptance → ℤ → Bool
 accepts None y = false
 accepts (Some a) y = within (a .lower) (a .upper) y

@@ -25,7 +25,7 @@ use requirement::Tolerance;
 use requirement::in_reach;
 use verdicts::verdict_on;
 
-// Floor and ceiling of the probability that the true value is at most a limit.
+// Floor and ceiling of the probability that the true value does not exceed a limit.
 fn up_to<K: Knowledge>(limit: i64, reading: i64, knowledge: &K) -> (u32, u32)
     requires { ⌜ in-reach limit ≡ true ⌝ ∗ ⌜ in-reach reading ≡ true ⌝ }
     ensures { λ r. ⌜ (r .0 ≡ answers (now (knowledge .entry)) .floor (limit -ℤ reading)) × (r .1 ≡ answers (now (knowledge .entry)) .ceiling (limit -ℤ reading)) ⌝ }

@@ -1,4 +1,4 @@
--- Offsets: the true value minus the reading, in steps.
+-- Offsets: how many steps the true value lies above the reading, negative where it lies below.
 use lib.IntN.{ℤ, pos, negℤ}
 use lib.Signed.{_≤ℤ_}
 use Rattle.std.specs.Numbers.{minZ, maxZ}

@@ -9,7 +9,7 @@ pub const MILLION: u32 = 1_000_000;
 // The greatest offset; its negative is the least one.
 pub const FARTHEST: i64 = 2_000_000;
 
-// What is known of the error of a reading. An offset is the true value minus the reading, in steps.
+// What is known of the error of a reading. An offset is how many steps the true value lies above it.
 pub trait Knowledge {
     // Everything that a value answers.
     ghost answers: { Self → Answers };
@@ -17,7 +17,7 @@ pub trait Knowledge {
     // Each kind shows that its answers keep the rules; code above rests on them alone.
     law rules: { (s : Self) → Rules (answers s) };
 
-    // Floor and ceiling, in millionths, of the probability that the true value is at most the reading plus `offset`.
+    // Floor and ceiling, in millionths, of the probability that the true value lies no more than `offset` steps above the reading.
     fn at_most(&self, offset: i64) -> (u32, u32)
         ensures { λ r. ⌜ (r .0 ≡ answers (now (self .entry)) .floor offset) × (r .1 ≡ answers (now (self .entry)) .ceiling offset) ⌝ };
 

@@ -15,7 +15,7 @@ use Rattle.judging.specs.declared.answers.Judgement.{Judgement}
 use Rattle.lot.specs.declared.items.Item.{Item}
 use Rattle.lot.specs.declared.items.ItemFields.{ItemFields}
 
--- a note: the arguments of an entry, the requirement that it found, and all that its state of knowledge answers
+-- a note: what was entered, the requirement that the sheet had for it, and the answers of its state of knowledge
 pub record Note : Type 0 where
   pub fields : ItemFields
   pub requirement : Requirement
