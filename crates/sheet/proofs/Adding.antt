@@ -19,11 +19,11 @@ use Rattle.table.specs.declared.Table.{Table}
 use Rattle.table.specs.declared.Refused.{Refused}
 use Rattle.table.specs.declared.Refused.the-variants.{Present, Full}
 use Rattle.table.specs.Tables.{standing, capacity}
-use Rattle.table.specs.Changes.{Same-list, Allowed, Insertion}
+use Rattle.table.specs.Changes.{Allowed, Insertion}
 use Rattle.sheet.specs.Sheets.{lookup, refusal-of, Added}
 use Rattle.sheet.proofs.Lookups.{lookup-picks, stands-some, absent-none}
 
-module _ (t t′ : Table Requirement) (q : Requirement) (same : Same-list t t′) where
+module _ (t t′ : Table Requirement) (q : Requirement) (keeps : capacity t′ ≡ capacity t) where
   abbrev found : Option Requirement
   found = lookup (standing t) (q .class) (q .characteristic)
 
@@ -37,7 +37,7 @@ module _ (t t′ : Table Requirement) (q : Requirement) (same : Same-list t t′
             (ap not (absent-none (standing t) (key-of q) found (lookup-picks (standing t) (q .class) (q .characteristic)) (allowed .0)))
             (passed (λ x. Unit {0}) (ltb (length (standing t)) (capacity t)) SheetFull None (Ok tt) (lt-ltb (length (standing t)) (capacity t) (allowed .1)) tt);
         change = record { place = i; within = change .0; standing-is = change .1; beyond-is = change .2 };
-        room = same .1;
+        room = keeps;
       }
 
   present : Insertion t q (Err Present) t′ → Allowed key-of t (key-of q) (Err Present) → Added t q (Err (direct DuplicateRequirement)) t′
@@ -46,7 +46,7 @@ module _ (t t′ : Table Requirement) (q : Requirement) (same : Same-list t t′
         answer = failed (λ (x : Unit {0}). Unit {0}) (not (isSome found)) DuplicateRequirement last
             (ap not (stands-some (standing t) (key-of q) found (lookup-picks (standing t) (q .class) (q .characteristic)) allowed));
         change = change;
-        room = same .1;
+        room = keeps;
       }
 
   full : Insertion t q (Err Full) t′ → Allowed key-of t (key-of q) (Err Full) → Added t q (Err (direct SheetFull)) t′
@@ -56,7 +56,7 @@ module _ (t t′ : Table Requirement) (q : Requirement) (same : Same-list t t′
             (ap not (absent-none (standing t) (key-of q) found (lookup-picks (standing t) (q .class) (q .characteristic)) (allowed .0)))
             (failed (λ (x : Unit {0}). Unit {0}) (ltb (length (standing t)) (capacity t)) SheetFull None (le-ltb (length (standing t)) (capacity t) (allowed .1)));
         change = change;
-        room = same .1;
+        room = keeps;
       }
 
   pub not-added : (why : Refused) → Insertion t q (Err why) t′ → Allowed key-of t (key-of q) (Err why) → Added t q (Err (direct (refusal-of why))) t′

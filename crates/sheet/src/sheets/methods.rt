@@ -28,7 +28,8 @@ fn refusal_of(refused: Refused) -> Refusal
 impl<'a> Sheet<'a> {
     // An empty sheet over the list; one that the check refuses has no place.
     pub fn new(places: &'a mut [Requirement]) -> Self
-        ensures list { λ r. ⌜ (now (r .table .places) ≡ now (places .entry)) × (name (r .table .places) ≡ name (places .entry)) ⌝ }
+        ensures list { λ r. ⌜ now (r .table .places) ≡ now (places .entry) ⌝ }
+        ensures same { λ r. ⌜ name (r .table .places) ≡ name (places .entry) ⌝ }
         ensures empty { λ r. ⌜ (standing (r .table) ≡ []) × (capacity (r .table) ≡ places-of (length (now (places .entry)))) ⌝ }
     {
         let limit = match check_places(places.len()) {
@@ -41,7 +42,7 @@ impl<'a> Sheet<'a> {
 
     // Puts a requirement in the sheet.
     pub fn add(&mut self, requirement: Requirement) -> Result<(), Fault>
-        ensures list { λ _. ⌜ name (now (self .exit) .table .places) ≡ name (now (self .entry) .table .places) ⌝ }
+        ensures same { λ _. ⌜ name (now (self .exit) .table .places) ≡ name (now (self .entry) .table .places) ⌝ }
         ensures outcome { λ r. ⌜ Added (now (self .entry) .table) requirement r (now (self .exit) .table) ⌝ }
     {
         match self.table.insert(requirement) {

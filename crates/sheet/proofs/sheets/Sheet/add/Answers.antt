@@ -9,7 +9,7 @@ pub returns-in-Ok : need.returns-in-Ok
 returns-in-Ok c =
     let s = c .args .self .now in
     let e = c .in-Ok .ensures tt in
-    record { list = e .list .0; outcome = added (s .table) (c .insert .last .self) (c .args .requirement) (e .list) (c .in-Ok .field-0) (e .change) (e .outcome (s .ordered) .0) }
+    record { same = e .same; outcome = added (s .table) (c .insert .last .self) (c .args .requirement) (e .room) (c .in-Ok .field-0) (e .change) (e .outcome (s .ordered) .0) }
 
 pub returns-in-Err : need.returns-in-Err
 returns-in-Err c =
@@ -17,7 +17,7 @@ returns-in-Err c =
     let e = c .in-Err .ensures tt in
     let why = c .in-Err .refused in
     record {
-      list = e .list .0;
+      same = e .same;
       outcome = subst (λ f. Added (s .table) (c .args .requirement) (Err f) (c .insert .last .self)) (sym (c .direct .ensures ∙ ap direct (c .refusal-of .ensures)))
-          (not-added (s .table) (c .insert .last .self) (c .args .requirement) (e .list) why (e .change) (e .outcome (s .ordered) .0));
+          (not-added (s .table) (c .insert .last .self) (c .args .requirement) (e .room) why (e .change) (e .outcome (s .ordered) .0));
     }
