@@ -25,7 +25,7 @@ mod parts;
 pub trait Entry: Copy {
     type Key: Ord + Copy;
 
-    // The key of an entry.
+    // The key of each entry.
     ghost key: { Self → Self·Key };
 
     // What the comparison of two keys answers.
@@ -34,6 +34,7 @@ pub trait Entry: Copy {
     // Each kind of entry shows that the order of its keys is total.
     law total: { Order (Key·Ord .orders) compare };
 
+    // The entry's own key.
     fn key(&self) -> Self::Key
         ensures { λ r. ⌜ r ≡ key (now (self .entry)) ⌝ };
 }

@@ -1,4 +1,4 @@
-// Work on a part of the list: the search in the used places, and the moves that open and close a place.
+// Work on plain lists of entries: reading, the search for a key, and the moves that open and close a place.
 ghost use mathlib.Core.Path.{_≡_};
 ghost use mathlib.Core.List.{[], _∷_, _++_};
 ghost use Prim.Native.Nat.{_+_, _-_, _≤_, _<_};

@@ -68,7 +68,7 @@ pub impl Entry for Mark as MarkEntry {
 }
 
 // Enters one reading through a table over the caller's list: what the list holds afterwards follows from the table's contracts.
-pub fn enter_first(places: &mut [Reading], reading: Reading) -> Result<usize, Refused>
+fn enter_first(places: &mut [Reading], reading: Reading) -> Result<usize, Refused>
     ensures { λ r. ⌜ Entered (now (places .entry)) reading r (now (places .exit)) ⌝ }
 {
     let limit = places.len();
@@ -211,7 +211,11 @@ mod tests {
         check_eq(table.insert(reading(8)), Ok(0))?;
         check_eq(table.insert(reading(6)), Ok(0))?;
         check_eq(table.remove(6), Some(reading(6)))?;
-        check_eq(places, [reading(8), reading(6), reading(2)])
+        check_eq(table.lookup(6), None)?;
+        check_eq(table.lookup(8), Some(reading(8)))?;
+        check_eq(places, [reading(8), reading(6), reading(2)])?;
+        check_eq(enter_first(&mut places, reading(5)), Ok(0))?;
+        check_eq(places, [reading(5), reading(6), reading(2)])
     }
 
     // With no place every entry is refused, and the list stays as it was.
