@@ -1,0 +1,6 @@
+mod Steps
+mod Cuts
+mod Unique
+mod Rows
+mod Readings
+mod Gathered

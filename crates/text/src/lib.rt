@@ -1,0 +1,11 @@
+// Record text: comma separated fields in lines that end in CR LF, as RFC 4180 has them, read record by record.
+mod field;
+mod machine;
+mod reader;
+mod scan;
+
+pub use field::Field;
+pub use field::Placed;
+pub use reader::Reader;
+pub use reader::methods::Record;
+pub use reader::methods::Stop;
