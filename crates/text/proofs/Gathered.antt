@@ -4,27 +4,27 @@ use mathlib.Core.Logic.{_⊎_, inl, inr, ⊎-elim}
 use mathlib.Core.Path.{_≡_, refl, sym, ap, subst, _∙_}
 use Prim.Native.Nat.{ℕ, _+_, _≤_, _<_}
 use native.Mathlib.Omega.{arith}
-use lib.ListN.{length, length-append, length-map}
+use lib.ListN.{length, set, length-append, length-map}
 use Rattle.std.specs.Joined.{joined}
 use Rattle.std.specs.shelf.Lists.{All}
 use Rattle.std.proofs.shelf.Elements.{all-push}
-use Rattle.std.proofs.shelf.Lists.{joined-more, map-push, length-push}
+use Rattle.std.proofs.shelf.Lists.{joined-more, map-push, length-push, take-all}
 use Rattle.faults.specs.declared.Refusal.{Refusal}
 use Rattle.text.specs.declared.field.Placed.{Placed}
 use Rattle.text.specs.declared.machine.Ending.{Ending}
 use Rattle.text.specs.declared.machine.Ending.the-variants.{Comma, Line, Text}
-use Rattle.text.specs.Fronts.{form, forms, Numbered, Ended, Leads}
+use Rattle.text.specs.Fronts.{form, forms, Numbered, laid, Ended, Leads}
 use Rattle.text.specs.Grammar.{COMMA, CR, LF, Form, Is-field, spelling, Is-record, spelled-record}
 use Rattle.text.specs.Offences.{Offence}
 use Rattle.text.specs.Records.{Begins, Breaks}
 use Rattle.text.proofs.Rows.{after-comma, before-comma}
 
--- record n: the fields ps stand at the front of bs, the k-th is next, and `rest` is left
+-- record n: the fields ps, k of them, stand at the front of bs, and `rest` is left
 pub record Sofar (n k : ℕ) (ps : List Placed) (rest bs : List ℕ) : Type 0 where
   pub are-fields : All Is-field (forms ps)
   pub numbered : Numbered n 1 ps
-  pub next : k ≡ length ps + 1
-  pub room : k + length rest ≤ length bs + 1
+  pub count : k ≡ length ps
+  pub room : k + length rest ≤ length bs
   pub spelt : bs ≡ joined before-comma (forms ps) ++ rest
 
 numbered-push : (n k : ℕ) (ps : List Placed) (p : Placed) → Numbered n k ps → p .«record» ≡ n → p .field ≡ k + length ps → Numbered n k (ps ++ p ∷ [])
@@ -47,20 +47,23 @@ ended-row Line sr after tail bs which h is = inl (is ∙ ap (λ t. sr ++ t) h)
 ended-row Text sr after tail bs which h is = inr (is ∙ ap (λ t. sr ++ t) (h .0) ∙ append-nil sr, h .1)
 
 -- before the first field
-pub none-yet : (n : ℕ) (bs : List ℕ) → Sofar n 1 [] bs bs
-none-yet n bs = record { are-fields = tt; numbered = tt; next = refl; room = omega arith; spelt = refl }
+pub none-yet : (n : ℕ) (bs : List ℕ) → Sofar n 0 [] bs bs
+none-yet n bs = record { are-fields = tt; numbered = tt; count = refl; room = omega arith; spelt = refl }
 
 module _ (n k : ℕ) (ps : List Placed) (rest bs : List ℕ) (so : Sofar n k ps rest bs) where
   -- the next field offends
-  pub breaks-here : (e : Refusal) → Offence e rest → Breaks e k bs
-  breaks-here e wrong = record { before = forms ps; are-fields = so .are-fields; counted = omega (arith, so .next, length-map ps (λ q. form (q .content))); wrong = rest; spelt = so .spelt; offence = wrong }
+  pub breaks-here : (e : Refusal) → Offence e rest → Breaks e (k + 1) bs
+  breaks-here e wrong = record { before = forms ps; are-fields = so .are-fields; counted = omega (arith, so .count, length-map ps (λ q. form (q .content))); wrong = rest; spelt = so .spelt; offence = wrong }
 
-  module _ (p : Placed) (e : Ending) (after : List ℕ) (is : p .«record» ≡ n) (at : p .field ≡ k) (leads : Leads (form (p .content)) e after rest) where
+  module _ (p : Placed) (e : Ending) (after : List ℕ) (is : p .«record» ≡ n) (at : p .field ≡ k + 1) (leads : Leads (form (p .content)) e after rest) where
     all-fields : All Is-field (forms (ps ++ p ∷ []))
     all-fields = subst (All Is-field) (sym (map-push (λ q. form (q .content)) ps p)) (all-push Is-field (forms ps) (form (p .content)) (so .are-fields) (leads .is-field))
 
     pub all-numbered : Numbered n 1 (ps ++ p ∷ [])
-    all-numbered = numbered-push n 1 ps p (so .numbered) is (omega (arith, so .next))
+    all-numbered = numbered-push n 1 ps p (so .numbered) is (omega (arith, so .count))
+
+    pub all-counted : k + 1 ≡ length (ps ++ p ∷ [])
+    all-counted = omega (arith, so .count, length-push ps p)
 
     forms-are : forms (ps ++ p ∷ []) ≡ forms ps ++ form (p .content) ∷ []
     forms-are = map-push (λ q. form (q .content)) ps p
@@ -77,7 +80,7 @@ module _ (n k : ℕ) (ps : List Placed) (rest bs : List ℕ) (so : Sofar n k ps 
       one-more = record {
         are-fields = all-fields;
         numbered = all-numbered;
-        next = omega (arith, so .next, length-push ps p);
+        count = all-counted;
         room = omega (arith, so .room, shorter);
         spelt =
             so .spelt ∙ ap (λ cs. joined before-comma (forms ps) ++ cs) (rest-is ∙ sym (append-assoc (spelling (form (p .content))) (COMMA ∷ []) after))
@@ -96,3 +99,17 @@ module _ (n k : ℕ) (ps : List Placed) (rest bs : List ℕ) (so : Sofar n k ps 
           ∙ sym (append-assoc (joined before-comma (forms ps)) (spelling (form (p .content))) (leads .tail))
           ∙ ap (λ cs. cs ++ leads .tail) (sym (spelled-push (forms ps) (form (p .content))) ∙ ap spelled-record (sym forms-are)));
     }
+
+-- nothing changes where no field is laid over the caller's list
+pub laid-none : (old : List Placed) → old ≡ laid [] old
+laid-none old = ap (λ ps. ps ++ old) (sym (take-all (length old) [] (omega arith)))
+
+-- one more field in it, where it reaches so far
+pub laid-push : (ps : List Placed) (p : Placed) (old : List Placed) → set (laid ps old) (length ps) p ≡ laid (ps ++ p ∷ []) old
+laid-push [] p [] = refl
+laid-push [] p (q ∷ old) = ap (λ qs. p ∷ qs) (laid-none old)
+laid-push (r ∷ ps) p [] = refl
+laid-push (r ∷ ps) p (q ∷ old) = ap (λ qs. r ∷ qs) (laid-push ps p old)
+
+pub laid-on : (ps : List Placed) (p : Placed) (k : ℕ) (old new last : List Placed) → new ≡ laid ps old → k ≡ length ps → last ≡ set new k p → last ≡ laid (ps ++ p ∷ []) old
+laid-on ps p k old new last is count put = put ∙ (λ i. set (is i) (count i) p) ∙ laid-push ps p old

@@ -7,15 +7,14 @@ use native.Mathlib.Omega.{arith}
 use lib.ListN.{length, length-append}
 use Rattle.std.specs.Joined.{joined}
 use Rattle.std.specs.shelf.Lists.{All}
-use Rattle.std.specs.Of.Vec.{vec-items}
 use Rattle.std.specs.declared.option.Option.the-variants.{Some}
 use Rattle.std.specs.declared.result.Result.the-variants.{Ok, Err}
+use Rattle.faults.specs.declared.Fault.{Fault}
 use Rattle.faults.specs.declared.Refusal.{Refusal}
+use Rattle.text.specs.declared.field.Placed.{Placed}
 use Rattle.text.specs.Grammar.{COMMA, CR, LF, Form, Is-field, spelling, Is-record, spelled-record, spelled, last-of, Is-text}
 use Rattle.text.specs.declared.reader.Reader.{Reader}
-use Rattle.text.specs.declared.reader.methods.Record.{Record}
-use Rattle.text.specs.declared.reader.methods.Stop.{Stop}
-use Rattle.text.specs.declared.reader.methods.Stop.the-variants.{Refused, NoMemory}
+use Rattle.text.specs.declared.reader.methods.Row.{Row}
 use Rattle.text.specs.Fronts.{forms, Numbered}
 use Rattle.text.specs.Reading.{left, handed, longest, Reads, broken}
 use Rattle.text.specs.Records.{Begins, Breaks, First, Broken}
@@ -91,11 +90,19 @@ pub shorter-after : (fs : List Form) (after bs : List ℕ) → Begins fs after b
 shorter-after fs after bs h =
     ⊎-elim (λ e. omega (arith, simp length-append at (ap length e))) (λ p. omega (arith, ap length (p .1), h .some)) (h .spelt)
 
--- what a reader answers where a record is split off, or not
-pub handed-out : (r s : Reader) (answer : Record) → length (left r) ≤ longest → answer .number ≡ handed r + 1 → Numbered (answer .number) 1 (vec-items (answer .fields)) → Begins (forms (vec-items (answer .fields))) (left s) (left r) → handed s ≡ handed r + 1 → Reads r s (Ok (Some answer))
-handed-out r s answer short is numbered begins count =
-    record { short = short; number = is; numbered = numbered; first = first-record (forms (vec-items (answer .fields))) (left s) (left r) begins; count = count }
+-- what a reader answers where its next record breaks, and where it stands
+pub stopped : (r : Reader) (old : List Placed) (f : Fault) → length (left r) ≤ longest → (f .«record» ≡ handed r + 1) × Breaks (f .refusal) (f .field) (left r) → Reads r r old old (Err f)
+stopped r old f short h = (broken short (h .0) (first-offence (f .refusal) (f .field) (left r) (h .1)), refl, refl)
 
-pub stopped : (r : Reader) (stop : Stop) → length (left r) ≤ longest → Split (handed r + 1) (left r) (Err stop) → Reads r r (Err stop)
-stopped r (Refused f) short h = (broken short (h .0) (first-offence (f .refusal) (f .field) (left r) (h .1)), refl)
-stopped r NoMemory short h = refl
+pub handed-out : (r s : Reader) (old new : List Placed) (n : ℕ) (row : Row) → length (left r) ≤ longest → n ≡ handed r + 1 → left s ≡ row .rest .now → handed s ≡ n → Split n (left r) old new (Ok row) → Reads r s old new (Ok (Some (record { number = n; count = row .count })))
+handed-out r s old new n row short is after count h =
+    record {
+      short = short;
+      ps = h .0;
+      first = first-record (forms (h .0)) (left s) (left r) (subst (λ t. Begins (forms (h .0)) t (left r)) (sym after) (h .2));
+      numbered = subst (λ m. Numbered m 1 (h .0)) is (h .1);
+      number-is = is;
+      count-is = h .3;
+      written = h .4;
+      on = count ∙ is;
+    }

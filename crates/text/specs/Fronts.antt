@@ -2,6 +2,7 @@
 use mathlib.Core.Path.{_≡_}
 use mathlib.Core.List.{List, [], _∷_, _++_, map}
 use Prim.Native.Nat.{ℕ, _+_}
+use lib.ListN.{length, take, drop}
 use Rattle.text.specs.declared.field.Field.{Field}
 use Rattle.text.specs.declared.field.Field.the-variants.{Bare, Quoted}
 use Rattle.text.specs.declared.field.Placed.{Placed}
@@ -21,6 +22,10 @@ forms ps = map (λ p. form (p .content)) ps
 abbrev pub Numbered : ℕ → ℕ → List Placed → Type 0
 Numbered n k [] = Unit {0}
 Numbered n k (p ∷ ps) = (p .«record» ≡ n) × (p .field ≡ k) × Numbered n (k + 1) ps
+
+-- the list with ps laid over its front, as far as it reaches
+abbrev pub laid : List Placed → List Placed → List Placed
+laid ps old = take (length old) ps ++ drop (length ps) old
 
 -- bs is what ends a field, and then `after`
 abbrev pub Ended : Ending → List ℕ → List ℕ → Type 0

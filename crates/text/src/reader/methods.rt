@@ -1,7 +1,7 @@
 // The reading of a text.
 ghost use mathlib.Core.Path.{_≡_};
 ghost use Prim.Native.Nat.{_<_, _≤_};
-ghost use lib.ListN.{length};
+ghost use lib.ListN.{length, set};
 ghost use Rattle.text.specs.Reading.{left, handed, longest, Reads};
 ghost use Rattle.text.specs.Rows.{Split};
 use crate::field::Placed;
@@ -10,50 +10,51 @@ use crate::reader::Reader;
 use crate::scan::scan;
 use faults::Fault;
 use faults::Refusal;
-use std::alloc::Global;
 
-// The longest text that is read.
+// The length of the longest text that is read.
 pub const LONGEST: usize = 65_536;
 
-// A record: its number, counted from 1, and its fields.
-#[derive(Drop)]
-pub struct Record<'a> {
-    pub number: u32,
-    pub fields: Vec<Placed<'a>>,
-}
-
-// Why no record is handed out.
+// A record that was read: its number, counted from 1, and how many fields it has.
 #[derive(Clone, Copy)]
-pub enum Stop {
-    Refused(Fault),
-    NoMemory,
+pub struct Record {
+    pub number: u32,
+    pub count: u32,
 }
 
-// The fields of a record, and the text after it.
-#[derive(Drop)]
+// The number of a record's fields, and the text after it.
+#[derive(Clone, Copy)]
 struct Row<'a> {
-    fields: Vec<Placed<'a>>,
+    count: u32,
     rest: &'a [u8],
 }
 
-// The first record of a text that is not empty, as record `number`.
-fn first_row<'a>(text: &'a [u8], number: u32, heap: Global) -> Result<Row<'a>, Stop>
+// Writes the field to its place in the list, if the list reaches so far.
+fn put<'a>(fields: &mut [Placed<'a>], at: usize, placed: Placed<'a>)
+    ensures { λ _. ⌜ now (fields .exit) ≡ set (now (fields .entry)) at (placed .entry) ⌝ }
+{
+    if at < fields.len() {
+        fields[at] = placed;
+    }
+}
+
+// Goes through the first record of `text`, as record `number`, and writes its fields to the list as far as that reaches.
+fn walk<'a>(text: &'a [u8], number: u32, fields: &mut [Placed<'a>]) -> Result<Row<'a>, Fault>
     requires some { ⌜ 0 < length (now text) ⌝ }
     requires short { ⌜ length (now text) ≤ longest ⌝ }
-    ensures { λ r. ⌜ Split number (now (text .entry)) r ⌝ }
+    ensures { λ r. ⌜ Split number (now (text .entry)) (now (fields .entry)) (now (fields .exit)) r ⌝ }
 {
-    let mut fields = Vec::new(heap);
     let mut rest = text;
-    let mut field = 1;
+    let mut count = 0;
     loop {
+        let field = count + 1;
         let front = match scan(rest) {
             Ok(front) => front,
             Err(refusal) => {
-                return Err(Stop::Refused(Fault {
+                return Err(Fault {
                     refusal,
                     record: number,
                     field,
-                }));
+                });
             }
         };
         let placed = Placed {
@@ -61,13 +62,12 @@ fn first_row<'a>(text: &'a [u8], number: u32, heap: Global) -> Result<Row<'a>, S
             record: number,
             field,
         };
-        if fields.push(placed).is_err() {
-            return Err(Stop::NoMemory);
-        }
+        put(fields, count as usize, placed);
+        count = field;
         rest = front.rest;
         match front.ending {
-            Ending::Comma => field += 1,
-            Ending::Line | Ending::Text => return Ok(Row { fields, rest }),
+            Ending::Comma => {}
+            Ending::Line | Ending::Text => return Ok(Row { count, rest }),
         }
     }
 }
@@ -83,23 +83,26 @@ impl<'a> Reader<'a> {
         }
     }
 
-    // The next record, or none at the end of the text. Where it is refused, the reader stays as it was.
-    pub fn next_record(&mut self, heap: Global) -> Result<Option<Record<'a>>, Stop>
-        ensures { λ r. ⌜ Reads (now (self .entry)) (now (self .exit)) r ⌝ }
+    // The next record, its fields written to the list as far as that reaches; none at the end of the text.
+    // A refusal leaves the list and the reader as they were.
+    pub fn next_record(&mut self, fields: &mut [Placed<'a>]) -> Result<Option<Record>, Fault>
+        ensures { λ r. ⌜ Reads (now (self .entry)) (now (self .exit)) (now (fields .entry)) (now (fields .exit)) r ⌝ }
     {
         if self.rest.len() > LONGEST {
-            return Err(Stop::Refused(Fault::direct(Refusal::TextTooLong)));
+            return Err(Fault::direct(Refusal::TextTooLong));
         }
         if self.rest.is_empty() {
             return Ok(None);
         }
         let number = self.record + 1;
-        let row = first_row(self.rest, number, heap)?;
+        // The whole record is checked before its first field is written.
+        let _ = walk(self.rest, number, &mut [])?;
+        let row = walk(self.rest, number, fields)?;
         self.rest = row.rest;
         self.record = number;
         Ok(Some(Record {
             number,
-            fields: row.fields,
+            count: row.count,
         }))
     }
 }
