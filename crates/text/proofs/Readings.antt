@@ -19,6 +19,7 @@ use Rattle.text.specs.Fronts.{forms, Numbered}
 use Rattle.text.specs.Reading.{left, handed, longest, Reads, broken}
 use Rattle.text.specs.Records.{Begins, Breaks, First, Broken}
 use Rattle.text.specs.Rows.{Split}
+use Rattle.text.proofs.Contents.{all-doubled, all-parts}
 use Rattle.text.proofs.Rows.{begins-once, breaks-once, unbroken, not-empty}
 
 -- a reading that is not empty begins with its first record
@@ -96,10 +97,13 @@ stopped r old f short h = (broken short (h .0) (first-offence (f .refusal) (f .f
 
 pub handed-out : (r s : Reader) (old new : List Placed) (n : ℕ) (row : Row) → length (left r) ≤ longest → n ≡ handed r + 1 → left s ≡ row .rest .now → handed s ≡ n → Split n (left r) old new (Ok row) → Reads r s old new (Ok (Some (record { number = n; count = row .count })))
 handed-out r s old new n row short is after count h =
+    let begins = subst (λ t. Begins (forms (h .0)) t (left r)) (sym after) (h .2) in
     record {
       short = short;
       ps = h .0;
-      first = first-record (forms (h .0)) (left s) (left r) (subst (λ t. Begins (forms (h .0)) t (left r)) (sym after) (h .2));
+      first = first-record (forms (h .0)) (left s) (left r) begins;
+      parts = all-parts (forms (h .0)) (left s) (left r) begins;
+      doubled = all-doubled (forms (h .0)) (begins .is-record .1);
       numbered = subst (λ m. Numbered m 1 (h .0)) is (h .1);
       number-is = is;
       count-is = h .3;

@@ -3,6 +3,7 @@ use mathlib.Core.List.{List, []}
 use mathlib.Core.Path.{_≡_}
 use Prim.Native.Nat.{ℕ, _+_, _≤_, _<_}
 use lib.ListN.{length}
+use Rattle.std.specs.shelf.Lists.{All}
 use Rattle.std.specs.declared.option.Option.{Option}
 use Rattle.std.specs.declared.option.Option.the-variants.{Some, None}
 use Rattle.std.specs.declared.result.Result.{Result}
@@ -13,6 +14,7 @@ use Rattle.faults.specs.Faults.{direct}
 use Rattle.text.specs.declared.field.Placed.{Placed}
 use Rattle.text.specs.declared.reader.Reader.{Reader}
 use Rattle.text.specs.declared.reader.methods.Record.{Record}
+use Rattle.text.specs.Content.{holds, Doubled, Part}
 use Rattle.text.specs.Fronts.{forms, Numbered, laid}
 use Rattle.text.specs.Records.{First, Broken}
 
@@ -33,6 +35,8 @@ pub record Hands (r s : Reader) (old new : List Placed) (answer : Record) : Type
   pub ps : List Placed
   pub first : First (forms ps) (left s) (left r)
   pub numbered : Numbered (handed r + 1) 1 ps
+  pub parts : All (λ f. Part (left r) (holds f)) (forms ps)
+  pub doubled : All Doubled (forms ps)
   pub number-is : answer .number ≡ handed r + 1
   pub count-is : answer .count ≡ length ps
   pub written : new ≡ laid ps old
