@@ -10,7 +10,7 @@ use lib.ListN.{length, take, drop}
 use Rattle.std.specs.Joined.{joined}
 use Rattle.std.specs.shelf.Lists.{All}
 use Rattle.std.proofs.shelf.Lists.{take-at, drop-at}
-use Rattle.std.proofs.shelf.Ways.{tells}
+use Rattle.std.proofs.shelf.Ways.{tells, eqb-tells}
 use Rattle.text.specs.Content.{singled, twice, holds, Doubled, Part}
 use Rattle.text.specs.Grammar.{COMMA, CR, LF, DQUOTE, Inside, nothing, other, doubled, Form, non-escaped, escaped, Is-field, spelling, Is-record, spelled-record}
 use Rattle.text.specs.Records.{Begins}
@@ -28,6 +28,42 @@ inside-twice : {qs : List ℕ} → Inside qs → qs ≡ twice (singled qs)
 inside-twice nothing = refl
 inside-twice (other {b} {bs} n i) = sym (ap twice (single-other b bs n) ∙ twice-other b (singled bs) n ∙ ap (λ cs. b ∷ cs) (sym (inside-twice i)))
 inside-twice (doubled i) = ap (λ cs. DQUOTE ∷ DQUOTE ∷ cs) (inside-twice i)
+
+-- bytes without a quote say themselves, and what says bytes without a quote is those bytes
+abbrev pub Quote-free : List ℕ → Type 0
+Quote-free bs = All (λ b. b ≡ DQUOTE → ⊥) bs
+
+pub single-free : (bs : List ℕ) → Quote-free bs → singled bs ≡ bs
+single-free [] h = refl
+single-free (b ∷ bs) h = single-other b bs (h .0) ∙ ap (λ cs. b ∷ cs) (single-free bs (h .1))
+
+-- two bytes at the front: both quotes, or the first stays
+front : (b c : ℕ) (bs : List ℕ) → ((b ≡ DQUOTE) × (c ≡ DQUOTE) × (singled (b ∷ c ∷ bs) ≡ DQUOTE ∷ singled bs)) ⊎ (singled (b ∷ c ∷ bs) ≡ b ∷ singled (c ∷ bs))
+front b c bs =
+    ⊎-elim
+    (λ p. ⊎-elim (λ q. inl (p .1, q .1, grind (arith, tells))) (λ q. inr (grind (arith, tells))) (eqb-tells c DQUOTE))
+    (λ p. inr (grind (arith, tells))) (eqb-tells b DQUOTE)
+
+pub free-single : (bs : List ℕ) → Quote-free (singled bs) → singled bs ≡ bs
+free-single [] h = refl
+free-single (b ∷ []) h = refl
+free-single (b ∷ c ∷ bs) h =
+    ⊎-elim (λ p. let free : Quote-free (DQUOTE ∷ singled bs) = subst Quote-free (p .2) h in absurd (free .0 refl))
+    (λ e. let free : Quote-free (b ∷ singled (c ∷ bs)) = subst Quote-free e h in e ∙ ap (λ cs. b ∷ cs) (free-single (c ∷ bs) (free .1))) (front b c bs)
+
+-- only empty bytes say nothing
+pub single-none : (bs : List ℕ) → length (singled bs) ≡ 0 → bs ≡ []
+single-none [] h = refl
+single-none (b ∷ []) h = absurd (omega arith)
+single-none (b ∷ c ∷ bs) h = ⊎-elim (λ p. absurd (omega (arith, ap length (p .2)))) (λ e. absurd (omega (arith, ap length e))) (front b c bs)
+
+-- one byte says one byte, and so does a doubled quote; nothing else does
+pub single-one : (bs : List ℕ) → length (singled bs) ≡ 1 → (length bs ≡ 1) ⊎ (bs ≡ DQUOTE ∷ DQUOTE ∷ [])
+single-one [] h = absurd (omega arith)
+single-one (b ∷ []) h = inl refl
+single-one (b ∷ c ∷ bs) h =
+    ⊎-elim (λ p. inr (λ i. p .0 i ∷ p .1 i ∷ single-none bs (omega (arith, ap length (p .2))) i))
+    (λ e. absurd (let z = ap length (single-none (c ∷ bs) (omega (arith, ap length e))) in omega arith)) (front b c bs)
 
 field-doubled : (f : Form) → Is-field f → Doubled f
 field-doubled (non-escaped bs) h = tt

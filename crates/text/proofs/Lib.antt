@@ -4,4 +4,4 @@ mod Unique
 mod Rows
 mod Readings
 mod Gathered
-mod Contents
+pub mod Contents
