@@ -1,3 +1,4 @@
 mod Places
 mod Signs
 mod Said
+mod Spoken

@@ -38,7 +38,7 @@ single-free [] h = refl
 single-free (b ∷ bs) h = single-other b bs (h .0) ∙ ap (λ cs. b ∷ cs) (single-free bs (h .1))
 
 -- two bytes at the front: both quotes, or the first stays
-front : (b c : ℕ) (bs : List ℕ) → ((b ≡ DQUOTE) × (c ≡ DQUOTE) × (singled (b ∷ c ∷ bs) ≡ DQUOTE ∷ singled bs)) ⊎ (singled (b ∷ c ∷ bs) ≡ b ∷ singled (c ∷ bs))
+pub front : (b c : ℕ) (bs : List ℕ) → ((b ≡ DQUOTE) × (c ≡ DQUOTE) × (singled (b ∷ c ∷ bs) ≡ DQUOTE ∷ singled bs)) ⊎ (singled (b ∷ c ∷ bs) ≡ b ∷ singled (c ∷ bs))
 front b c bs =
     ⊎-elim
     (λ p. ⊎-elim (λ q. inl (p .1, q .1, grind (arith, tells))) (λ q. inr (grind (arith, tells))) (eqb-tells c DQUOTE))

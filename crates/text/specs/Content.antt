@@ -20,7 +20,7 @@ abbrev pub twice : List ℕ → List ℕ
 twice [] = []
 twice (b ∷ bs) = cond (eqb b DQUOTE) (DQUOTE ∷ DQUOTE ∷ twice bs) (b ∷ twice bs)
 
--- the quotes around a field are no part of its content, and a doubled quote in it stands for one
+-- the outer quotes are not said, and a doubled quote between them says one
 abbrev pub says : Form → List ℕ
 says (non-escaped bs) = bs
 says (escaped bs) = singled bs

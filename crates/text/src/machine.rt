@@ -1,4 +1,4 @@
-// The machine that finds a field's end: what a byte does depends on the part of the field that it stands in.
+// The machine that finds a field's end: its state and the next byte together decide the step.
 ghost use Rattle.text.specs.Machine.{Does};
 use faults::Refusal;
 
