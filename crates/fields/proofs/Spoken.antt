@@ -14,7 +14,7 @@ use Rattle.std.proofs.shelf.Tests.{cases-lt}
 use Rattle.text.specs.Content.{singled}
 use Rattle.text.specs.Grammar.{DQUOTE}
 use Rattle.text.proofs.Contents.{front, single-none}
-use Rattle.fields.specs.Words.{Says-one}
+use Rattle.fields.specs.Spoken.{Says-one}
 
 -- a quote that stands twice
 pub says-two : (bs : List ℕ) (i : ℕ) → i + 1 < length bs → getD bs i 0 ≡ DQUOTE → getD bs (i + 1) 0 ≡ DQUOTE → Says-one bs i 2

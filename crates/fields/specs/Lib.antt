@@ -1,3 +1,3 @@
 pub mod Values
 pub mod Answers
-pub mod Words
+pub mod Spoken

@@ -7,7 +7,7 @@ use Rattle.std.proofs.shelf.Signed.{ints}
 use Rattle.fields.specs.Values.{Numeral, magnitude}
 use Rattle.fields.proofs.Places.{numeral-small}
 use Rattle.fields.proofs.Signs.{first-minus, first-other, minus-value, plain-value}
-use Rattle.fields.proofs.signed.Needs as need
+use Rattle.fields.proofs.numbers.signed.Needs as need
 
 pub cast-result : need.cast-result
 cast-result c = let small = numeral-small _ (c .in-Some .ensures tt .0) in record { sfits = omega (arith, c .in-Some .ensures tt .1) }

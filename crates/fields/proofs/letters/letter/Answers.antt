@@ -7,8 +7,8 @@ use Rattle.text.specs.Content.{holds, says}
 use Rattle.text.specs.Fronts.{form}
 use Rattle.text.specs.Grammar.{DQUOTE, Form, escaped}
 use Rattle.fields.proofs.Said.{holds-one, says-one, one-byte}
-use Rattle.fields.proofs.letter.Needs as need
-use Rattle.fields.proofs.letter.Needs.{in-rest·by·in-Quoted·else-is-doubled-quote, in-rest·by·in-Bare·}
+use Rattle.fields.proofs.letters.letter.Needs as need
+use Rattle.fields.proofs.letters.letter.Needs.{in-rest·by·in-Quoted·else-is-doubled-quote, in-rest·by·in-Bare·}
 
 pub returns-in-rest : need.returns-in-rest
 returns-in-rest c =

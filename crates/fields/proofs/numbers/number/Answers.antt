@@ -5,7 +5,7 @@ use Rattle.text.specs.Content.{holds}
 use Rattle.text.specs.Fronts.{form}
 use Rattle.fields.specs.Values.{Is-number, number-of}
 use Rattle.fields.proofs.Said.{holds-number, says-number}
-use Rattle.fields.proofs.number.Needs as need
+use Rattle.fields.proofs.numbers.number.Needs as need
 
 pub returns-in-Some : need.returns-in-Some
 returns-in-Some c =

@@ -4,7 +4,7 @@ use borrow.Author.Tests.{true-eqb}
 use Rattle.std.proofs.shelf.Lists.{nil-from-length}
 use Rattle.text.specs.Fronts.{form}
 use Rattle.fields.proofs.Said.{holds-none, says-none}
-use Rattle.fields.proofs.limit.Needs as need
+use Rattle.fields.proofs.numbers.limit.Needs as need
 
 pub returns-then-is-empty : need.returns-then-is-empty
 returns-then-is-empty c =

@@ -1,7 +1,7 @@
 use native.Mathlib.Omega.{arith}
 use Rattle.fields.proofs.Spoken.{alike-more, too-short, differs, alike-all}
-use Rattle.fields.proofs.quoted_says.Needs as need
-use Rattle.fields.proofs.quoted_says.Needs.{then-at-bytes·by·then-at-bytes, then-at-bytes·by·else-at-bytes·then-bytes-at}
+use Rattle.fields.proofs.words.quoted_says.Needs as need
+use Rattle.fields.proofs.words.quoted_says.Needs.{then-at-bytes·by·then-at-bytes, then-at-bytes·by·else-at-bytes·then-bytes-at}
 
 pub returns-then-at-bytes : need.returns-then-at-bytes
 returns-then-at-bytes c = (

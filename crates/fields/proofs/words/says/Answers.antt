@@ -3,7 +3,7 @@ use denote.Ref.{now}
 use Rattle.std.specs.Orderings.{Decides}
 use Rattle.std.proofs.shelf.Equals.{matches-decides}
 use Rattle.text.specs.Content.{content-of}
-use Rattle.fields.proofs.says.Needs as need
+use Rattle.fields.proofs.words.says.Needs as need
 
 pub returns-in-Bare : need.returns-in-Bare
 returns-in-Bare c =

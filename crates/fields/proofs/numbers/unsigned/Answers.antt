@@ -4,7 +4,7 @@ use native.Mathlib.Omega.{arith}
 use lib.ListN.{getD, length}
 use borrow.Author.Tests.{false-eqb}
 use Rattle.fields.proofs.Places.{Sofar, small, one-more, all-read, no-digit}
-use Rattle.fields.proofs.unsigned.Needs as need
+use Rattle.fields.proofs.numbers.unsigned.Needs as need
 
 pub returns-then-not-is-ascii-digit : need.returns-then-not-is-ascii-digit
 returns-then-not-is-ascii-digit c =

@@ -1,0 +1,32 @@
+// Letters.
+ghost use mathlib.Core.List.{[], _∷_};
+ghost use mathlib.Core.Path.{_≡_};
+ghost use Rattle.std.specs.Orderings.{Decides};
+ghost use Rattle.faults.specs.declared.Refusal.the-variants.{UnknownLetter};
+ghost use Rattle.text.specs.Grammar.{DQUOTE};
+ghost use Rattle.fields.specs.Answers.{said, Told};
+ghost use Rattle.fields.specs.Values.{Is-letter, Letter};
+use crate::refused;
+use faults::Fault;
+use faults::Refusal;
+use text::Field;
+use text::Placed;
+
+// Whether the bytes are a quote that stands twice.
+fn is_doubled_quote(bytes: &[u8]) -> bool
+    ensures { λ r. ⌜ Decides r (now (bytes .entry) ≡ DQUOTE ∷ DQUOTE ∷ []) ⌝ }
+{
+    bytes.len() == 2 && bytes[0] == b'"' && bytes[1] == b'"'
+}
+
+// The one letter that the field says.
+pub fn letter(field: Placed<'_>) -> Result<char, Fault>
+    ensures { λ r. ⌜ Told (field .entry) r (Is-letter (said (field .entry))) (Letter (said (field .entry))) UnknownLetter ⌝ }
+{
+    let bytes = field.content.bytes();
+    match field.content {
+        Field::Quoted(_) if is_doubled_quote(bytes) => Ok('"'),
+        _ if bytes.len() == 1 => Ok(char::from(bytes[0])),
+        _ => Err(refused(field, Refusal::UnknownLetter)),
+    }
+}
