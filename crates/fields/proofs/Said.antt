@@ -1,13 +1,18 @@
 -- What a field says, by the bytes that it holds.
+use mathlib.Core.Bool.{Bool}
 use mathlib.Core.List.{List, [], _∷_}
 use mathlib.Core.Logic.{_⊎_, inl, inr, ⊎-elim}
 use mathlib.Core.Path.{_≡_, refl, sym, ap, subst, _∙_}
 use Prim.Native.Nat.{ℕ}
 use native.Mathlib.Omega.{arith}
 use lib.Dec.{eqb}
+use lib.IntN.{ℤ}
 use lib.ListN.{length, getD}
 use borrow.Author.Tests.{true-eqb, eq-eqb}
+use Rattle.std.specs.Numbers.{Checked}
 use Rattle.std.specs.Orderings.{Decides}
+use Rattle.std.specs.declared.option.Option.{Option}
+use Rattle.std.specs.declared.option.Option.the-variants.{Some, None}
 use Rattle.std.specs.shelf.Lists.{All}
 use Rattle.std.proofs.shelf.Elements.{all-weaker}
 use Rattle.std.proofs.shelf.Lists.{nil-from-length}
@@ -66,3 +71,16 @@ two-quotes [] h e = absurd (omega arith)
 two-quotes (b ∷ []) h e = absurd (omega arith)
 two-quotes (b ∷ c ∷ []) h e = ((λ t. (λ i. e i ∷ true-eqb c DQUOTE (sym t) i ∷ [])), λ p. eq-eqb c DQUOTE (ap (λ l. getD l 1 0) p))
 two-quotes (b ∷ c ∷ d ∷ bs) h e = absurd (omega arith)
+
+-- what is read of the bytes that a field holds is read of what it says
+pub checked-said : (f : Form) (hs : List ℕ) (r : Option ℤ) → hs ≡ holds f → Checked r (Is-number hs) (number-of hs) → Checked r (Is-number (says f)) (number-of (says f))
+checked-said f hs None is none = λ h. none (subst Is-number (says-number f h ∙ sym is) h)
+checked-said f hs (Some v) is got =
+    let same = is ∙ sym (holds-number f (subst Is-number is (got .0))) in
+    (subst Is-number same (got .0), got .1 ∙ ap number-of same)
+
+pub silent : (f : Form) (hs : List ℕ) (r : Bool) → hs ≡ holds f → r ≡ eqb (length hs) 0 → Decides r (says f ≡ [])
+silent f hs r is e = (
+  (λ t. holds-none f (sym is ∙ nil-from-length hs (true-eqb _ 0 (sym t ∙ e)))),
+  λ none. e ∙ eq-eqb _ 0 (ap length (is ∙ says-none f none)),
+)

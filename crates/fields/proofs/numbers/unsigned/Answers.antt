@@ -1,8 +1,7 @@
-use mathlib.Core.Path.{sym, ap, subst}
+use mathlib.Core.Path.{refl, sym, subst}
 use Prim.Native.Nat.{_*_, _+_, _^_, _<_}
 use native.Mathlib.Omega.{arith}
 use lib.ListN.{getD, length}
-use borrow.Author.Tests.{false-eqb}
 use Rattle.fields.proofs.Places.{Sofar, small, one-more, all-read, no-digit}
 use Rattle.fields.proofs.numbers.unsigned.Needs as need
 
@@ -13,18 +12,18 @@ returns-then-not-is-ascii-digit c =
 
 pub mul-value : need.mul-value
 mul-value c =
-    record { fits = omega (arith, small _ _ _ (c .loop-digit .inv) (c .if-digits-gt-MOST-DIGITS .left) (omega arith)) }
+    record { fits = omega (arith, small _ _ _ (c .loop-digit .inv) (c .if-not-few .ensures tt .0 refl .1) (omega arith)) }
 
 pub add-value : need.add-value
 add-value c =
     let d = c .if-not-is-ascii-digit .ensures tt .cases in
-    record { fits = omega (arith, d, c .from .ensures, small _ _ _ (c .loop-digit .inv) (c .if-digits-gt-MOST-DIGITS .left) (omega arith)) }
+    record { fits = omega (arith, d, c .from .ensures, small _ _ _ (c .loop-digit .inv) (c .if-not-few .ensures tt .0 refl .1) (omega arith)) }
 
 pub loop-digit-again : need.loop-digit-again
 loop-digit-again c =
     let d = c .if-not-is-ascii-digit .ensures tt .cases in
     subst (λ x. Sofar (10 * c .loop-digit .value + x) (c .loop-digit .digit-index + 1) (c .args .digits .now)) (sym (c .from .ensures))
-    (one-more _ _ _ (c .loop-digit .inv) (c .if-digits-gt-MOST-DIGITS .left) (c .loop-digit-test .taken) (record { not-below = omega (arith, d); not-above = omega (arith, d) }))
+    (one-more _ _ _ (c .loop-digit .inv) (c .if-not-few .ensures tt .0 refl .1) (c .loop-digit-test .taken) (record { not-below = omega (arith, d); not-above = omega (arith, d) }))
 
 pub returns : need.returns
-returns c = all-read _ _ _ (c .loop-digit .inv) (c .if-digits-gt-MOST-DIGITS .left) (c .loop-digit-test .left) (omega (arith, false-eqb _ 0 (c .if-is-empty .ensures tt)))
+returns c = all-read _ _ _ (c .loop-digit .inv) (c .if-not-few .ensures tt .0 refl .1) (c .loop-digit-test .left) (c .if-not-few .ensures tt .0 refl .0)
