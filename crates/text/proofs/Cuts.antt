@@ -88,9 +88,3 @@ pub open-at-end : (s : State) (bs : List ℕ) (i : ℕ) → s ≡ Quoted → len
 open-at-end s bs i is past h =
     let held : So-far Quoted bs = subst (So-far Quoted) (take-all i bs past) (subst (λ t. So-far t (take i bs)) is h) in
     unclosed (held .0) (held .1) (held .2)
-
-pub no-open-quote : (s : State) → (s ≡ Quoted → ⊥) → Complete s
-no-open-quote Start n = tt
-no-open-quote Bare n = tt
-no-open-quote Quoted n = n refl
-no-open-quote AfterQuote n = tt

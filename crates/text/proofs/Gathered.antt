@@ -111,5 +111,5 @@ laid-push [] p (q ∷ old) = ap (λ qs. p ∷ qs) (laid-none old)
 laid-push (r ∷ ps) p [] = refl
 laid-push (r ∷ ps) p (q ∷ old) = ap (λ qs. r ∷ qs) (laid-push ps p old)
 
-pub laid-on : (ps : List Placed) (p : Placed) (k : ℕ) (old new last : List Placed) → new ≡ laid ps old → k ≡ length ps → last ≡ set new k p → last ≡ laid (ps ++ p ∷ []) old
-laid-on ps p k old new last is count put = put ∙ (λ i. set (is i) (count i) p) ∙ laid-push ps p old
+pub laid-on : (ps : List Placed) (p q : Placed) (k : ℕ) (old new last : List Placed) → new ≡ laid ps old → k ≡ length ps → q ≡ p → last ≡ set new k q → last ≡ laid (ps ++ p ∷ []) old
+laid-on ps p q k old new last is count same put = put ∙ (λ i. set (is i) (count i) (same i)) ∙ laid-push ps p old

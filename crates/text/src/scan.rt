@@ -3,12 +3,13 @@ ghost use mathlib.Core.List.{List, _∷_};
 ghost use mathlib.Core.Path.{_≡_};
 ghost use Prim.Native.Nat.{ℕ, _≤_};
 ghost use lib.ListN.{length, take, drop};
-ghost use Rattle.std.specs.Orderings.{Decides};
+ghost use Rattle.std.specs.Orderings.{Decides, When};
 ghost use Rattle.std.specs.Results.{Cases};
 ghost use Rattle.text.specs.Fronts.{form, Ended, Leads};
 ghost use Rattle.text.specs.Grammar.{LF, Is-field, spelling};
 ghost use Rattle.text.specs.Machine.{So-far, Complete};
 ghost use Rattle.text.specs.Offences.{Offence};
+ghost use Rattle.text.specs.declared.machine.State.the-variants.{Quoted};
 use crate::field::Field;
 use crate::machine::Effect;
 use crate::machine::Ending;
@@ -29,6 +30,13 @@ fn lf_at(text: &[u8], at: usize) -> bool
     ensures { λ r. ⌜ Decides r ((cs : List ℕ) × (drop at (now (text .entry)) ≡ LF ∷ cs)) ⌝ }
 {
     at < text.len() && text[at] == b'\n'
+}
+
+// Whether a quoted field is not closed yet.
+fn is_open(state: State) -> bool
+    ensures { λ r. ⌜ When r (state ≡ Quoted) (Complete state) ⌝ }
+{
+    matches!(state, State::Quoted)
 }
 
 // The field that these bytes are, where the machine stands in `state` after them.
@@ -83,8 +91,8 @@ pub fn scan<'a>(text: &'a [u8]) -> Result<Front<'a>, Refusal>
         }
         at += 1;
     }
-    match state {
-        State::Quoted => Err(Refusal::BrokenQuotes),
-        _ => Ok(cut(text, at, state, Ending::Text)),
+    if is_open(state) {
+        return Err(Refusal::BrokenQuotes);
     }
+    Ok(cut(text, at, state, Ending::Text))
 }

@@ -1,9 +1,10 @@
 // The reading of a text.
 ghost use mathlib.Core.Path.{_≡_};
-ghost use Prim.Native.Nat.{_<_, _≤_};
+ghost use Prim.Native.Nat.{_+_, _<_, _≤_};
 ghost use lib.ListN.{length, set};
 ghost use Rattle.text.specs.Reading.{left, handed, longest, Reads};
 ghost use Rattle.text.specs.Rows.{Split};
+use crate::field::Field;
 use crate::field::Placed;
 use crate::machine::Ending;
 use crate::reader::Reader;
@@ -28,6 +29,18 @@ struct Row<'a> {
     rest: &'a [u8],
 }
 
+// The field that comes after so many others of its record.
+fn numbered<'a>(content: Field<'a>, record: u32, before: u32) -> Placed<'a>
+    requires { ⌜ before ≤ longest ⌝ }
+    ensures { λ r. ⌜ r ≡ record { content = content .entry; «record» = «record»; field = before + 1 } ⌝ }
+{
+    Placed {
+        content,
+        record,
+        field: before + 1,
+    }
+}
+
 // Writes the field to its place in the list, if the list reaches so far.
 fn put<'a>(fields: &mut [Placed<'a>], at: usize, placed: Placed<'a>)
     ensures { λ _. ⌜ now (fields .exit) ≡ set (now (fields .entry)) at (placed .entry) ⌝ }
@@ -46,24 +59,18 @@ fn walk<'a>(text: &'a [u8], number: u32, fields: &mut [Placed<'a>]) -> Result<Ro
     let mut rest = text;
     let mut count = 0;
     loop {
-        let field = count + 1;
         let front = match scan(rest) {
             Ok(front) => front,
             Err(refusal) => {
                 return Err(Fault {
                     refusal,
                     record: number,
-                    field,
+                    field: count + 1,
                 });
             }
         };
-        let placed = Placed {
-            content: front.field,
-            record: number,
-            field,
-        };
-        put(fields, count as usize, placed);
-        count = field;
+        put(fields, count as usize, numbered(front.field, number, count));
+        count += 1;
         rest = front.rest;
         match front.ending {
             Ending::Comma => {}

@@ -16,7 +16,7 @@ pub returns-in-Break-walk : need.returns-in-Break-walk
 returns-in-Break-walk c =
     let p = err-from-errBy (c .from-residual .result) (c .from-residual .ensures .1) in
     subst (λ a. Reads (c .args .self .now) (c .args .self .now) (c .args .fields .now) (c .args .fields .now) a) (sym (p .1 ∙ ap Err (p .2)))
-    (stopped (c .args .self .now) (c .args .fields .now) (c .in-Break-walk .field-0 .0) (c .if-self-gt-LONGEST .left) (c .in-Break-walk .ensures tt))
+    (stopped (c .args .self .now) (c .args .fields .now) (c .in-Break-walk .field-0 .0) (omega arith) (c .in-Break-walk .ensures tt))
 
 -- the record was checked whole
 pub returns-in-Break-row : need.returns-in-Break-row
@@ -26,4 +26,4 @@ pub ghost-self : need.ghost-self
 ghost-self c = (omega (arith, shorter-after _ _ _ (c .in-Continue-row .ensures tt .2), c .args .self .now .counted), tt)
 
 pub returns : need.returns
-returns c = handed-out _ _ _ _ _ (c .in-Continue-row .row) (c .if-self-gt-LONGEST .left) refl refl refl (c .in-Continue-row .ensures tt)
+returns c = handed-out _ _ _ _ _ (c .in-Continue-row .row) (omega arith) refl refl refl (c .in-Continue-row .ensures tt)
