@@ -109,4 +109,5 @@ handed-out r s old new n row short is after count h =
       count-is = h .3;
       written = h .4;
       on = count ∙ is;
+      shorter = shorter-after (forms (h .0)) (left s) (left r) begins;
     }

@@ -41,6 +41,7 @@ pub record Hands (r s : Reader) (old new : List Placed) (answer : Record) : Type
   pub count-is : answer .count ≡ length ps
   pub written : new ≡ laid ps old
   pub on : handed s ≡ handed r + 1
+  pub shorter : length (left s) < length (left r)
 
 -- the text is refused: it is too long, or its next record breaks at a field
 pub data Refuses (r : Reader) (f : Fault) : Type 0 where
