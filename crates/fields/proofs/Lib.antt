@@ -1,0 +1,4 @@
+mod Places
+mod Signs
+mod Said
+mod Spoken
