@@ -46,7 +46,7 @@ fn in_widened(tolerance: &Tolerance, width: i64, reading: i64) -> bool
 }
 
 // The verdict, given where readings are accepted and the width of the guard band.
-pub fn verdict_on(
+pub(crate) fn verdict_on(
     requirement: &Requirement,
     acceptance: &Acceptance,
     width: i64,

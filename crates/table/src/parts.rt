@@ -14,7 +14,7 @@ use std::cmp::Ordering;
 use std::mem;
 
 // The first `count` entries of the list, or all where it has no more.
-pub fn front<E>(list: &[E], count: usize) -> &[E]
+pub(crate) fn front<E>(list: &[E], count: usize) -> &[E]
     ensures { λ r. ⌜ now r ≡ take count (now (list .entry)) ⌝ }
 {
     let end = count.min(list.len());
@@ -22,14 +22,14 @@ pub fn front<E>(list: &[E], count: usize) -> &[E]
 }
 
 // The entry at a place, if there is one.
-pub fn item_at<E: Copy>(entries: &[E], place: usize) -> Option<E>
+pub(crate) fn item_at<E: Copy>(entries: &[E], place: usize) -> Option<E>
     ensures { λ r. ⌜ r ≡ nth (now (entries .entry)) place ⌝ }
 {
     entries.get(place).copied()
 }
 
 // Where the key stands among entries in order, or else where it belongs, by bisection.
-pub fn bisect<E: Entry>(entries: &[E], key: E::Key) -> Result<usize, usize>
+pub(crate) fn bisect<E: Entry>(entries: &[E], key: E::Key) -> Result<usize, usize>
     ensures { λ r. ⌜ Found (E·Entry .key) (E·Entry .compare) (now (entries .entry)) key r ⌝ }
 {
     let mut low = 0;
@@ -46,7 +46,7 @@ pub fn bisect<E: Entry>(entries: &[E], key: E::Key) -> Result<usize, usize>
 }
 
 // Puts the entry at a place among the first `count` of the list: each later one of them moves one place on.
-pub fn insert_at<E: Entry>(list: &mut [E], count: usize, place: usize, entry: E)
+pub(crate) fn insert_at<E: Entry>(list: &mut [E], count: usize, place: usize, entry: E)
     requires { ⌜ place ≤ length (take count (now list)) ⌝ ∗ ⌜ length (take count (now list)) < length (now list) ⌝ }
     ensures front { λ _. ⌜ take (length (take count (now (list .entry))) + 1) (now (list .exit)) ≡ inserted (take count (now (list .entry))) place entry ⌝ }
     ensures size { λ _. ⌜ length (take (length (take count (now (list .entry))) + 1) (now (list .exit))) ≡ length (take count (now (list .entry))) + 1 ⌝ }
@@ -57,7 +57,7 @@ pub fn insert_at<E: Entry>(list: &mut [E], count: usize, place: usize, entry: E)
 }
 
 // Takes out the entry at a place among the first `count` of the list: each later one of them moves one place back.
-pub fn remove_at<E: Entry>(list: &mut [E], count: usize, place: usize) -> E
+pub(crate) fn remove_at<E: Entry>(list: &mut [E], count: usize, place: usize) -> E
     requires { ⌜ place < length (take count (now list)) ⌝ }
     ensures item { λ r. ⌜ nth (take count (now (list .entry))) place ≡ Some r ⌝ }
     ensures front { λ r. ⌜ take (length (take count (now (list .entry))) - 1) (now (list .exit)) ≡ removed (take count (now (list .entry))) place ⌝ }
@@ -71,7 +71,7 @@ pub fn remove_at<E: Entry>(list: &mut [E], count: usize, place: usize) -> E
 }
 
 // Moves every entry one place on, with `first` before them, and answers the entry that found no place.
-pub fn shift_on<E: Copy>(part: &mut [E], first: E) -> E
+pub(crate) fn shift_on<E: Copy>(part: &mut [E], first: E) -> E
     ensures { λ r. ⌜ first ∷ now (part .entry) ≡ now (part .exit) ++ r ∷ [] ⌝ }
 {
     let mut carried = first;
@@ -82,7 +82,7 @@ pub fn shift_on<E: Copy>(part: &mut [E], first: E) -> E
 }
 
 // Moves every entry one place back, with `last` after them, and answers the entry that found no place.
-pub fn shift_back<E: Copy>(part: &mut [E], last: E) -> E
+pub(crate) fn shift_back<E: Copy>(part: &mut [E], last: E) -> E
     ensures { λ r. ⌜ now (part .entry) ++ last ∷ [] ≡ r ∷ now (part .exit) ⌝ }
 {
     let mut carried = last;
