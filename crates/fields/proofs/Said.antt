@@ -1,4 +1,4 @@
--- What a field says, by the bytes that it holds.
+-- What a field saying, by the bytes that it holds.
 use mathlib.Core.Bool.{Bool}
 use mathlib.Core.List.{List, [], _∷_}
 use mathlib.Core.Logic.{_⊎_, inl, inr, ⊎-elim}
@@ -18,7 +18,7 @@ use Rattle.std.proofs.shelf.Elements.{all-weaker}
 use Rattle.std.proofs.shelf.Lists.{nil-from-length}
 use Rattle.std.proofs.shelf.Tests.{cond-true, cond-false}
 use Rattle.std.proofs.shelf.Ways.{eqb-tells}
-use Rattle.text.specs.Content.{singled, says, holds}
+use Rattle.text.specs.Content.{singled, saying, holds}
 use Rattle.text.specs.Grammar.{DQUOTE, Form, non-escaped, escaped}
 use Rattle.text.proofs.Contents.{Quote-free, single-free, free-single, single-none, single-one}
 use Rattle.fields.specs.Values.{Digit, Numeral, magnitude, Is-number, number-of}
@@ -35,29 +35,29 @@ number-free (b ∷ bs) h =
     (λ p. digits-free (b ∷ bs) (subst Numeral (cond-false (eqb b 45) bs (b ∷ bs) (p .0)) h)) (eqb-tells b 45)
 
 -- so a field says a number where it holds one, and the same
-pub holds-number : (f : Form) → Is-number (holds f) → says f ≡ holds f
+pub holds-number : (f : Form) → Is-number (holds f) → saying f ≡ holds f
 holds-number (non-escaped bs) h = refl
 holds-number (escaped bs) h = single-free bs (number-free bs h)
 
-pub says-number : (f : Form) → Is-number (says f) → says f ≡ holds f
+pub says-number : (f : Form) → Is-number (saying f) → saying f ≡ holds f
 says-number (non-escaped bs) h = refl
 says-number (escaped bs) h = free-single bs (number-free (singled bs) h)
 
 -- and it says nothing where it holds nothing
-pub holds-none : (f : Form) → holds f ≡ [] → says f ≡ []
+pub holds-none : (f : Form) → holds f ≡ [] → saying f ≡ []
 holds-none (non-escaped bs) h = h
 holds-none (escaped bs) h = ap singled h
 
-pub says-none : (f : Form) → says f ≡ [] → holds f ≡ []
+pub says-none : (f : Form) → saying f ≡ [] → holds f ≡ []
 says-none (non-escaped bs) h = h
 says-none (escaped bs) h = single-none bs (ap length h)
 
 -- and one byte where it holds that, or between quotes a doubled quote
-pub holds-one : (f : Form) (b : ℕ) → holds f ≡ b ∷ [] → says f ≡ b ∷ []
+pub holds-one : (f : Form) (b : ℕ) → holds f ≡ b ∷ [] → saying f ≡ b ∷ []
 holds-one (non-escaped bs) b h = h
 holds-one (escaped bs) b h = ap singled h
 
-pub says-one : (f : Form) → length (says f) ≡ 1 → (length (holds f) ≡ 1) ⊎ (f ≡ escaped (DQUOTE ∷ DQUOTE ∷ []))
+pub says-one : (f : Form) → length (saying f) ≡ 1 → (length (holds f) ≡ 1) ⊎ (f ≡ escaped (DQUOTE ∷ DQUOTE ∷ []))
 says-one (non-escaped bs) h = inl h
 says-one (escaped bs) h = ⊎-elim (λ p. inl p) (λ p. inr (ap escaped p)) (single-one bs h)
 
@@ -73,13 +73,13 @@ two-quotes (b ∷ c ∷ []) h e = ((λ t. (λ i. e i ∷ true-eqb c DQUOTE (sym 
 two-quotes (b ∷ c ∷ d ∷ bs) h e = absurd (omega arith)
 
 -- what is read of the bytes that a field holds is read of what it says
-pub checked-said : (f : Form) (hs : List ℕ) (r : Option ℤ) → hs ≡ holds f → Checked r (Is-number hs) (number-of hs) → Checked r (Is-number (says f)) (number-of (says f))
+pub checked-said : (f : Form) (hs : List ℕ) (r : Option ℤ) → hs ≡ holds f → Checked r (Is-number hs) (number-of hs) → Checked r (Is-number (saying f)) (number-of (saying f))
 checked-said f hs None is none = λ h. none (subst Is-number (says-number f h ∙ sym is) h)
 checked-said f hs (Some v) is got =
     let same = is ∙ sym (holds-number f (subst Is-number is (got .0))) in
     (subst Is-number same (got .0), got .1 ∙ ap number-of same)
 
-pub silent : (f : Form) (hs : List ℕ) (r : Bool) → hs ≡ holds f → r ≡ eqb (length hs) 0 → Decides r (says f ≡ [])
+pub silent : (f : Form) (hs : List ℕ) (r : Bool) → hs ≡ holds f → r ≡ eqb (length hs) 0 → Decides r (saying f ≡ [])
 silent f hs r is e = (
   (λ t. holds-none f (sym is ∙ nil-from-length hs (true-eqb _ 0 (sym t ∙ e)))),
   λ none. e ∙ eq-eqb _ 0 (ap length (is ∙ says-none f none)),

@@ -23,9 +23,9 @@ pub record Numeral (ds : List ℕ) : Type 0 where
   pub digits : All Digit ds
 
 -- the sum of the digits, each times its power of ten
-abbrev pub value : List ℕ → ℕ
-value [] = 0
-value (d ∷ ds) = (d - 48) * 10 ^ length ds + value ds
+abbrev pub worth : List ℕ → ℕ
+worth [] = 0
+worth (d ∷ ds) = (d - 48) * 10 ^ length ds + worth ds
 
 -- a minus stands first
 abbrev pub negative : List ℕ → Bool
@@ -42,19 +42,19 @@ abbrev pub Is-number : List ℕ → Type 0
 Is-number bs = Numeral (magnitude bs)
 
 abbrev pub number-of : List ℕ → ℤ
-number-of bs = cond (negative bs) (negℤ (pos (value (magnitude bs)))) (pos (value (magnitude bs)))
+number-of bs = cond (negative bs) (negℤ (pos (worth (magnitude bs)))) (pos (worth (magnitude bs)))
 
 -- a limit: a number, or nothing where it is absent
 abbrev pub Is-limit : List ℕ → Type 0
 Is-limit bs = (bs ≡ []) ⊎ Is-number bs
 
-abbrev pub Limit : List ℕ → Option ℤ → Type 0
-Limit bs None = bs ≡ []
-Limit bs (Some v) = Is-number bs × (v ≡ number-of bs)
+abbrev pub Says-limit : List ℕ → Option ℤ → Type 0
+Says-limit bs None = bs ≡ []
+Says-limit bs (Some v) = Is-number bs × (v ≡ number-of bs)
 
 -- a letter: one byte
 abbrev pub Is-letter : List ℕ → Type 0
 Is-letter bs = length bs ≡ 1
 
-abbrev pub Letter : List ℕ → ℕ → Type 0
-Letter bs c = bs ≡ c ∷ []
+abbrev pub Says-letter : List ℕ → ℕ → Type 0
+Says-letter bs c = bs ≡ c ∷ []

@@ -7,7 +7,7 @@ ghost use Rattle.faults.specs.declared.Refusal.the-variants.{UnknownLetter};
 ghost use Rattle.text.specs.Content.{content-of};
 ghost use Rattle.text.specs.Grammar.{DQUOTE};
 ghost use Rattle.fields.specs.Answers.{said, Told};
-ghost use Rattle.fields.specs.Values.{Is-letter, Letter};
+ghost use Rattle.fields.specs.Values.{Is-letter, Says-letter};
 use crate::refused;
 use faults::Fault;
 use faults::Refusal;
@@ -23,7 +23,7 @@ fn is_doubled_quote(bytes: &[u8]) -> bool
 
 // The one letter that a field says.
 fn said_letter(content: Field<'_>) -> Option<char>
-    ensures { λ r. ⌜ Cases r (Is-letter (content-of (content .entry)) → ⊥) (Letter (content-of (content .entry))) ⌝ }
+    ensures { λ r. ⌜ Cases r (Is-letter (content-of (content .entry)) → ⊥) (Says-letter (content-of (content .entry))) ⌝ }
 {
     let bytes = content.bytes();
     match content {
@@ -35,7 +35,7 @@ fn said_letter(content: Field<'_>) -> Option<char>
 
 // The one letter that the field says.
 pub fn letter(field: Placed<'_>) -> Result<char, Fault>
-    ensures { λ r. ⌜ Told (field .entry) r (Is-letter (said (field .entry))) (Letter (said (field .entry))) UnknownLetter ⌝ }
+    ensures { λ r. ⌜ Told (field .entry) r (Is-letter (said (field .entry))) (Says-letter (said (field .entry))) UnknownLetter ⌝ }
 {
     match said_letter(field.content) {
         Some(letter) => Ok(letter),

@@ -9,7 +9,7 @@ ghost use Rattle.std.specs.Orderings.{Decides};
 ghost use Rattle.faults.specs.declared.Refusal.the-variants.{NotANumber};
 ghost use Rattle.text.specs.Content.{content-of};
 ghost use Rattle.fields.specs.Answers.{said, Told};
-ghost use Rattle.fields.specs.Values.{Numeral, value, negative, magnitude, Is-number, number-of, Is-limit, Limit};
+ghost use Rattle.fields.specs.Values.{Numeral, worth, negative, magnitude, Is-number, number-of, Is-limit, Says-limit};
 use crate::refused;
 use faults::Fault;
 use faults::Refusal;
@@ -28,7 +28,7 @@ fn few(count: usize) -> bool
 
 // The value of 1 to 10 digits.
 fn unsigned(digits: &[u8]) -> Option<u64>
-    ensures { λ r. ⌜ Checked r (Numeral (now (digits .entry))) (value (now (digits .entry))) ⌝ }
+    ensures { λ r. ⌜ Checked r (Numeral (now (digits .entry))) (worth (now (digits .entry))) ⌝ }
 {
     if !few(digits.len()) {
         return None;
@@ -105,7 +105,7 @@ pub fn number(field: Placed<'_>) -> Result<i64, Fault>
 
 // The limit that the field says: a number, or none where the field is empty.
 pub fn limit(field: Placed<'_>) -> Result<Option<i64>, Fault>
-    ensures { λ r. ⌜ Told (field .entry) r (Is-limit (said (field .entry))) (Limit (said (field .entry))) NotANumber ⌝ }
+    ensures { λ r. ⌜ Told (field .entry) r (Is-limit (said (field .entry))) (Says-limit (said (field .entry))) NotANumber ⌝ }
 {
     if is_silent(field.content) {
         return Ok(None);

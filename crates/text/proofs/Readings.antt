@@ -12,7 +12,7 @@ use Rattle.std.specs.declared.result.Result.the-variants.{Ok, Err}
 use Rattle.faults.specs.declared.Fault.{Fault}
 use Rattle.faults.specs.declared.Refusal.{Refusal}
 use Rattle.text.specs.declared.field.Placed.{Placed}
-use Rattle.text.specs.Grammar.{COMMA, CR, LF, Form, Is-field, spelling, Is-record, spelled-record, spelled, last-of, Is-text}
+use Rattle.text.specs.Grammar.{COMMA, CR, LF, Form, Is-field, spelling, Is-record, spelled-record, spelled, last-of, Is-text, One-reading}
 use Rattle.text.specs.declared.reader.Reader.{Reader}
 use Rattle.text.specs.declared.reader.methods.Row.{Row}
 use Rattle.text.specs.Fronts.{forms, Numbered}
@@ -68,9 +68,24 @@ begins-text r (s ∷ ss) after bs h k = (
       (h .spelt),
 )
 
+-- a text that is not empty has a record
+none-read : (r : List Form) (rs : List (List Form)) (bs : List ℕ) → bs ≡ [] → Is-text (r ∷ rs) bs → ⊥
+none-read r rs bs none h = omega (arith, ap length none, text-begins r rs bs h .1 .some)
+
+one-reading : (bs : List ℕ) → One-reading bs
+one-reading bs [] [] h k = refl
+one-reading bs [] (s ∷ ss) h k = absurd (none-read s ss bs h k)
+one-reading bs (r ∷ rs) [] h k = absurd (none-read r rs bs k h)
+one-reading bs (r ∷ rs) (s ∷ ss) h k =
+    let x = text-begins r rs bs h in
+    let y = text-begins s ss bs k in
+    let same = begins-once r s (x .0) (y .0) bs (x .1) (y .1) in
+    let rest = one-reading (y .0) rs ss (subst (Is-text rs) (same .1) (x .2)) (y .2) in
+    (λ i. same .0 i ∷ rest i)
+
 pub first-record : (fs : List Form) (after bs : List ℕ) → Begins fs after bs → First fs after bs
 first-record fs after bs h =
-    record { begins = h; reads-on = λ rs k. begins-text fs rs after bs h k; only = only; unbroken = λ e k x. unbroken fs after bs e k h x }
+    record { begins = h; reads-on = λ rs k. begins-text fs rs after bs h k; only = only; alone = one-reading bs; unbroken = λ e k x. unbroken fs after bs e k h x }
   where
     only : (rs : List (List Form)) → Is-text rs bs → (ss : List (List Form)) × (rs ≡ fs ∷ ss) × Is-text ss after
     only [] none = absurd (omega (arith, ap length none, h .some))

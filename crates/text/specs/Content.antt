@@ -21,12 +21,12 @@ twice [] = []
 twice (b ∷ bs) = cond (eqb b DQUOTE) (DQUOTE ∷ DQUOTE ∷ twice bs) (b ∷ twice bs)
 
 -- the outer quotes are not said, and a doubled quote between them says one
-abbrev pub says : Form → List ℕ
-says (non-escaped bs) = bs
-says (escaped bs) = singled bs
+abbrev pub saying : Form → List ℕ
+saying (non-escaped bs) = bs
+saying (escaped bs) = singled bs
 
 abbrev pub content-of : Field → List ℕ
-content-of f = says (form f)
+content-of f = saying (form f)
 
 -- the bytes that a field holds: its content, but in a quoted field each quote twice
 abbrev pub holds : Form → List ℕ

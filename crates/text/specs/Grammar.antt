@@ -72,3 +72,7 @@ abbrev pub Is-text : List (List Form) → List ℕ → Type 0
 Is-text [] bs = bs ≡ []
 Is-text (r ∷ rs) bs =
     All Is-record (r ∷ rs) × ((bs ≡ spelled (r ∷ rs) ++ CR ∷ LF ∷ []) ⊎ ((bs ≡ spelled (r ∷ rs)) × (0 < length (spelled-record (last-of r rs)))))
+
+-- bs has one reading at most
+abbrev pub One-reading : List ℕ → Type 0
+One-reading bs = (rs ss : List (List Form)) → Is-text rs bs → Is-text ss bs → rs ≡ ss

@@ -7,7 +7,7 @@ use lib.ListN.{length}
 use Rattle.std.specs.Joined.{joined}
 use Rattle.std.specs.shelf.Lists.{All}
 use Rattle.faults.specs.declared.Refusal.{Refusal}
-use Rattle.text.specs.Grammar.{COMMA, CR, LF, Form, Is-field, spelling, Is-record, spelled-record, Is-text}
+use Rattle.text.specs.Grammar.{COMMA, CR, LF, Form, Is-field, spelling, Is-record, spelled-record, Is-text, One-reading}
 use Rattle.text.specs.Offences.{Offence}
 
 -- bs begins with the record fs, which a CR LF or the end of the text ends, and `after` comes next
@@ -25,11 +25,12 @@ pub record Breaks (e : Refusal) (k : ℕ) (bs : List ℕ) : Type 0 where
   pub spelt : bs ≡ joined (λ f. spelling f ++ COMMA ∷ []) before ++ wrong
   pub offence : Offence e wrong
 
--- fs is the first record of bs: every reading of bs is fs and a reading of `after`, and nothing offends in it
+-- fs is the first record of bs: every reading of bs is fs and a reading of `after`, there is one at most, and nothing offends in fs
 pub record First (fs : List Form) (after bs : List ℕ) : Type 0 where
   pub begins : Begins fs after bs
   pub reads-on : (rs : List (List Form)) → Is-text rs after → Is-text (fs ∷ rs) bs
   pub only : (rs : List (List Form)) → Is-text rs bs → (ss : List (List Form)) × (rs ≡ fs ∷ ss) × Is-text ss after
+  pub alone : One-reading bs
   pub unbroken : (e : Refusal) (k : ℕ) → Breaks e k bs → ⊥
 
 -- bs has no first record: no reading of bs is there, and this is the one offence
