@@ -1,4 +1,6 @@
 // Acceptance limits: where a reading is accepted, by the requirement's decision rule and what is known of the error.
+#![tactic(auto)]
+
 mod bounds;
 mod guard;
 mod moves;

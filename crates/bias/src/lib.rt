@@ -1,4 +1,6 @@
 // The bias layer: a state of knowledge for an instrument that reads too high or too low by a known number of steps.
+#![tactic(auto)]
+
 ghost use Rattle.std.specs.Prelude.{◌≡◌, pos, ◌+ℤ◌, neg_ℤ, ◌≤ℤ◌};
 ghost use Rattle.faults.specs.Faults.{AnswersBy};
 ghost use Rattle.knowledge.specs.Offsets.{nearest};

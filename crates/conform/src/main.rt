@@ -1,4 +1,6 @@
 // Carries readings of a haul road from what is required of them to their verdicts, and prints each step.
+#![tactic(auto)]
+
 mod steps;
 mod stops;
 mod words;

@@ -1,4 +1,6 @@
 // Reads record text from standard input and writes what the engine answers to standard output.
+#![tactic(auto)]
+
 ghost use Rattle.std.specs.Prelude.{◌≤◌, length, IfOk};
 
 use report::report;

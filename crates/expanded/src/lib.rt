@@ -1,4 +1,6 @@
 // The expanded uncertainty of either kind: twice its standard uncertainty.
+#![tactic(auto)]
+
 ghost use Rattle.std.specs.Prelude.{◌≡◌, ◌≤◌, pos, ◌≤ℤ◌};
 ghost use Rattle.expanded.specs.Expanded.{reaches, first_reaching, expanded_of, LeastOver, FollowsRule};
 

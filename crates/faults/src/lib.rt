@@ -1,4 +1,6 @@
 // Why a call was refused, and where in the record text the cause stands: one fault type for the whole engine.
+#![tactic(auto)]
+
 ghost use Rattle.std.specs.Prelude.{◌≡◌};
 ghost use Rattle.faults.specs.Numbers.{number, layer};
 ghost use Rattle.faults.specs.Faults.{direct};

@@ -1,4 +1,6 @@
 // Fields to values: numbers, limits, letters and words, by what a field says. A fault carries the field's place.
+#![tactic(auto)]
+
 ghost use Rattle.std.specs.Prelude.{◌≡◌};
 ghost use Rattle.fields.specs.Answers.{fault_at};
 

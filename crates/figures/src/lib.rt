@@ -1,4 +1,6 @@
 // Worked figures: known numbers carried through the definitions, as one proved statement, and one reading through the calls.
+#![tactic(auto)]
+
 ghost use Rattle.std.specs.Prelude.{◌≡◌, length};
 ghost use Rattle.figures.specs.Figures.{figures, AllHold};
 

@@ -1,4 +1,6 @@
 // What a record does: a requirement goes to the sheet, an item to the lot.
+#![tactic(auto)]
+
 ghost use Rattle.std.specs.Prelude.{◌≡◌};
 ghost use Rattle.records.specs.Cells.{cells};
 ghost use Rattle.records.specs.Entries.{item_meant, answer_of};

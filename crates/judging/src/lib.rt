@@ -1,4 +1,6 @@
 // Judging a reading against what is required of it.
+#![tactic(auto)]
+
 ghost use Rattle.std.specs.Prelude.{◌≡◌, true, ◌-ℤ◌};
 ghost use Rattle.faults.specs.Faults.{AnswersBy};
 ghost use Rattle.requirement.specs.Limits.{in_reach};

@@ -1,4 +1,6 @@
 // The kinds of states of knowledge by their letters, as records name them.
+#![tactic(auto)]
+
 ghost use Rattle.std.specs.Prelude.{◌≡◌};
 ghost use Rattle.faults.specs.Faults.{AnswersBy};
 ghost use Rattle.kinds.specs.Kinds.{answered, kind_refusal, HasGiven};

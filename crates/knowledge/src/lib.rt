@@ -1,4 +1,6 @@
 // States of knowledge: what is known of a reading's error, asked through two questions that every kind answers.
+#![tactic(auto)]
+
 ghost use Rattle.std.specs.Prelude.{◌≡◌};
 ghost use Rattle.knowledge.specs.Knowledge.{Answers, Rules};
 ghost use Rattle.knowledge.specs.Offsets.{nearest};

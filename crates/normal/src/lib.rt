@@ -1,4 +1,6 @@
 // The normal kind: the error has a normal distribution about the reading, known by its standard uncertainty.
+#![tactic(auto)]
+
 mod table;
 
 ghost use Rattle.std.specs.Prelude.{◌≡◌, ◌-◌, ◌≤◌, pos};

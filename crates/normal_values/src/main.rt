@@ -1,6 +1,8 @@
 // Compares the normal kind with values of the standard normal distribution function that were computed elsewhere. Each line of the
 // input has a standard uncertainty, an offset, and the true probability in units of 10^-12, rounded down and rounded up;
 // tools/normal_values.py made it. The same answers are then asked for through three bias layers.
+#![tactic(auto)]
+
 ghost use Rattle.std.specs.Prelude.{◌≡◌, ◌*◌, ◌&&◌, pos, neg_ℤ, ◌≤ℤ◌, nat_le};
 ghost use Rattle.normal.specs.Normal.{normal};
 

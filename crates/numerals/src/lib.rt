@@ -1,4 +1,6 @@
 // Whole numbers in decimal.
+#![tactic(auto)]
+
 ghost use Rattle.std.specs.Prelude.{◌≡◌, ◌+◌, ◌-◌, ◌/◌, ◌%◌, ◌^◌, ◌<◌, ◌≤◌, true, ◌++◌, replicate, is_ok, if◌then◌else◌, vec_len, vec_capacity, decimal};
 ghost use Rattle.numerals.specs.Digits.{lowest_digits, Skips, Shortest};
 

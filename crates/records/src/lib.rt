@@ -1,4 +1,6 @@
 // Records: the fields of one record as a typed record.
+#![tactic(auto)]
+
 mod columns;
 mod makers;
 mod rows;

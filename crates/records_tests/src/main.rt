@@ -1,4 +1,6 @@
 // Reads texts on standard input, a line each in hexadecimal, and writes what is made of each of their records.
+#![tactic(auto)]
+
 use std::io;
 use std::io::{BufRead, BufReader};
 

@@ -1,4 +1,6 @@
 // The rectangular kind: the error lies within a half-width of the reading, every part of that interval equally likely.
+#![tactic(auto)]
+
 ghost use Rattle.std.specs.Prelude.{◌≡◌, ◌≤◌, pos};
 ghost use Rattle.faults.specs.Faults.{AnswersBy};
 ghost use Rattle.faults.specs.Ranges.{range_refusal};

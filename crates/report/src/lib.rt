@@ -1,4 +1,6 @@
 // From record text to the whole output: each record is read, taken in and answered by a line, and a line for each class follows.
+#![tactic(auto)]
+
 ghost use Rattle.std.specs.Prelude.{IfOk};
 ghost use Rattle.report.specs.Output.{OutputFor};
 

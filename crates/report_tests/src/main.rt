@@ -1,5 +1,7 @@
 // Reads the cases on standard input, a line each in hexadecimal, and writes the whole output for each, which begins with its header.
 // The first three bytes of a case are a number, the others begin a text; so many commas end it, which keeps long texts short.
+#![tactic(auto)]
+
 use report::report;
 use std::alloc::{AllocError, Global};
 use std::io;

@@ -1,4 +1,6 @@
 // What is required of a characteristic: tolerance limits, a decision rule and a mode.
+#![tactic(auto)]
+
 mod keys;
 mod requirements;
 mod rows;

@@ -1,4 +1,6 @@
 // The requirement sheet: requirements by class and characteristic, over the caller's list.
+#![tactic(auto)]
+
 ghost use Rattle.faults.specs.Faults.{AnswersBy};
 ghost use Rattle.sheet.specs.Lists.{list_refusal};
 

@@ -1,4 +1,6 @@
 // One ordered table over the caller's list, for every kind of entry. An entry names its own key.
+#![tactic(auto)]
+
 ghost use Rattle.std.specs.Prelude.{◌≡◌, ◌<◌, ◌≤◌, min, [], length, Some, Ok, Err, nat_le};
 ghost use Rattle.std.specs.declared.cmp.Ordering.{Ordering};
 ghost use Rattle.std.specs.List.{slice_get};

@@ -1,4 +1,6 @@
 // The table at three kinds of entry, each with a key of another make.
+#![tactic(auto)]
+
 ghost use Rattle.std.specs.Cmp.{int_cmp_total, nat_cmp_total, then_total, on_total};
 ghost use Rattle.std.specs.Tuples.{triples};
 ghost use Rattle.table_tests.specs.Entered.{Entered};

@@ -1,6 +1,8 @@
 // Reads the cases on standard input, a line each, and writes what is made of them.
 // A case is a letter and bytes in hexadecimal: `t` asks for the records of that text, `v` for the values of its first
 // field, and `n` for the records of a text of commas, as many as the three bytes say.
+#![tactic(auto)]
+
 use std::alloc::{AllocError, Global};
 use std::io;
 use std::io::{BufRead, BufReader};

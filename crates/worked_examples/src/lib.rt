@@ -1,5 +1,7 @@
 // Tests of judging: worked examples of published documents, brought to whole steps, and every refusal. What is expected is what the
 // documents print, or follows from the rules by hand.
+#![tactic(auto)]
+
 #[cfg(test)]
 mod cases;
 #[cfg(test)]
