@@ -1,24 +1,48 @@
 -- Lists of entries whose keys strictly ascend.
-use Rattle.std.proofs.Common.{◌≡◌, ℕ, suc, ◌+◌, ◌-◌, ◌<◌, ◌≤◌, Bool, true, false, ◌&&◌, T, List, [], ◌∷◌, map, length, get_or, Ordering, Less, sym, ap, ◌∙◌, subst, ⊎_elim, arith}
-use Rattle.std.specs.List.{insert, remove, AllWithin, list_all}
+use Rattle.std.proofs.Common.{◌≡◌, ℕ, suc, ◌+◌, ◌-◌, ◌<◌, ◌≤◌, Bool, true, false, ◌&&◌, T, List, [], ◌∷◌, map, length, get_or, Ordering, Less, Equal, Greater, refl, sym, ap, ◌∙◌, subst, ⊎_elim, arith}
+use Rattle.std.specs.List.{insert, remove, AllWithin, AllByRecursion, list_all}
 use Rattle.std.specs.Ordering.{is_lt}
 use Rattle.std.proofs.lemmas.List.Edits.{length-insert, get_or-insert_below, get_or-insert_at, get_or-insert_above, length-remove, get_or-remove_below, get_or-remove_above}
-use Rattle.std.proofs.lemmas.Map.Invariant.{sorted-from-test}
+use Rattle.std.specs.List.Sorted.{IsStrictlySortedBy}
 use Rattle.std.proofs.lemmas.Map.Keys.{Less-from_sorted}
 use Rattle.std.proofs.lemmas.List.{length-map, get_or-map}
 use Rattle.std.proofs.lemmas.Bool.{cases_lt}
-use Rattle.table.specs.Keys.{Ascending}
+use Rattle.table.specs.Keys.{Ascending, is_strictly_sorted_by}
 
 both : (a b : Bool) → T a → T b → T (a && b)
 both true b p q = q
 both false b p q = absurd p
+
+parts : (a b : Bool) → T (a && b) → T a × T b
+parts true b p = (tt, p)
+parts false b p = absurd p
+
+module _ {K : Type 0} (compare : K → K → Ordering) where
+  less_from_test : (o : Ordering) → T (is_lt o) → o ≡ Less
+  less_from_test Less h = refl
+  less_from_test Equal h = absurd h
+  less_from_test Greater h = absurd h
+
+  all_less : (k : K) (ks : List K) → T (list_all (λ y. is_lt (compare k y)) ks) → AllByRecursion (λ y. compare k y ≡ Less) ks
+  all_less k [] h = tt
+  all_less k (x ∷ xs) h =
+      let both = parts (is_lt (compare k x)) _ h in
+      (less_from_test (compare k x) both.0, all_less k xs both.1)
+
+  -- what the test says, in the library's word
+  sorted_from_test : (ks : List K) → T (is_strictly_sorted_by compare ks) → IsStrictlySortedBy compare ks
+  unfolding IsStrictlySortedBy
+  sorted_from_test [] h = tt
+  sorted_from_test (k ∷ ks) h =
+      let both = parts (list_all (λ y. is_lt (compare k y)) ks) _ h in
+      (all_less k ks both.0, sorted_from_test ks both.1)
 
 module _ {E K : Type 0} (key : E → K) (compare : K → K → Ordering) where
   -- an earlier entry has the lesser key
   pub ascends : (xs : List E) (i j : ℕ) (d : E) → Ascending key compare xs → i < j → j < length xs → compare (key (get_or xs i d)) (key (get_or xs j d)) ≡ Less
   ascends xs i j d up before within =
       let within' : j < length (map key xs) = omega (arith, length-map xs key) in
-      let less = Less-from_sorted compare (map key xs) i j (key d) (sorted-from-test compare (map key xs) up) before within' in
+      let less = Less-from_sorted compare (map key xs) i j (key d) (sorted_from_test compare (map key xs) up) before within' in
       let first : i < length xs = omega arith in
       simp (get_or-map key xs i d (key d) first, get_or-map key xs j d (key d) within) at less
 

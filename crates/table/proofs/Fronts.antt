@@ -1,10 +1,8 @@
 -- The first entries of a list, where the count may pass its end.
-use Rattle.std.proofs.Common.{◌≡◌, ℕ, ◌-◌, ◌<◌, ◌≤◌, min, List, length, get_or, take, Some, None, Option, sym, ap, ◌∙◌, ⊎_elim, arith, Bor}
+use Rattle.std.proofs.Common.{◌≡◌, ℕ, ◌-◌, ◌<◌, ◌≤◌, min, List, length, get_or, take, Some, sym, ap, ◌∙◌, ⊎_elim, arith}
 use Rattle.std.specs.List.{slice_get}
-use Rattle.std.specs.Option.{option_map}
-use Rattle.std.specs.Slice.{IsGetResult}
 use Rattle.std.proofs.lemmas.List.{length-take, take_all, get_or-take}
-use Rattle.std.proofs.lemmas.Option.{slice_get-get_or, slice_get_past}
+use Rattle.std.proofs.lemmas.Option.{slice_get-get_or}
 use Rattle.std.proofs.lemmas.Bool.{cases_lt}
 
 -- what stands lies within the list
@@ -20,8 +18,3 @@ pub take_min : {E : Type 0} (n m : ℕ) (xs : List E) → m ≡ min n (length xs
 take_min n m xs e =
     ⊎_elim (λ short. ap (λ (k : ℕ). take k xs) (let same : m - 0 ≡ n = omega arith in same))
     (λ past. let whole : length xs ≤ m - 0 = omega arith in take_all (m - 0) xs whole ∙ sym (take_all n xs past)) (cases_lt n (length xs))
-
--- the entry that `get` lends is the entry at that place
-pub nth_item : {E : Type 0} (xs : List E) (i : ℕ) (r : Option (Bor E)) → IsGetResult xs i i r → option_map ((λ x. x.now) {X = E}) r ≡ slice_get xs i
-nth_item xs i None item = sym (slice_get_past xs i item.3)
-nth_item xs i (Some x) item = sym (slice_get-get_or xs i x.now item.3.0 ∙ ap Some (sym (item.3.1 x.now)))

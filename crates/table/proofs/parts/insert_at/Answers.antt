@@ -6,11 +6,11 @@ use Rattle.table.proofs.Ascents.{ascending_inserted}
 use Rattle.table.proofs.Edits.{opened}
 use Rattle.table.proofs.parts.insert_at.Goals as goal
 
-pub overflow-add-count : goal.overflow-add-count
-overflow-add-count g c = record { fits = omega (arith, length-take c.args.count c.args.list.now) }
+pub overflow_add-count : goal.overflow_add-count
+overflow_add-count g c = record { fits = omega (arith, length-take c.args.count c.args.list.now) }
 
-pub slice-bounds-shift-on-end : goal.slice-bounds-shift-on-end
-slice-bounds-shift-on-end g c = omega (arith, length-take c.args.count c.args.list.now)
+pub slice_bounds-shift_on-end : goal.slice_bounds-shift_on-end
+slice_bounds-shift_on-end g c = omega (arith, length-take c.args.count c.args.list.now)
 
 pub returns : goal.returns
 returns g c =
@@ -21,7 +21,7 @@ returns g c =
     let i = c.args.place in
     let e = c.args.entry in
     let standing = take n xs in
-    let after = opened xs n n (omega (arith, length-take n xs)) i e c.shift-on.result c.shift-on.new.part (omega (arith, length-take n xs)) (omega (arith, length-take n xs)) c.shift-on.ensures in
+    let after = opened xs n n (omega (arith, length-take n xs)) i e c.shift_on.result c.shift_on.new.part (omega (arith, length-take n xs)) (omega (arith, length-take n xs)) c.shift_on.ensures in
     record {
       front = after.front;
       size = ap length after.front ∙ length-insert standing i e c.requires.0;

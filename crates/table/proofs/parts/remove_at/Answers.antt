@@ -6,20 +6,20 @@ use Rattle.table.proofs.Edits.{closed}
 use Rattle.table.proofs.Fronts.{standing_place, standing_nth}
 use Rattle.table.proofs.parts.remove_at.Goals as goal
 
-pub offset-bounds-list-place : goal.offset-bounds-list-place
-offset-bounds-list-place g c = let h = standing_place c.args.count c.args.list.now c.args.place c.requires in search rules
+pub offset_bounds-list-place : goal.offset_bounds-list-place
+offset_bounds-list-place g c = let h = standing_place c.args.count c.args.list.now c.args.place c.requires in search rules
 
 pub bounds-list-place : goal.bounds-list-place
 bounds-list-place g c = let h = standing_place c.args.count c.args.list.now c.args.place c.requires in search rules
 
-pub offset-bounds-list-place-2 : goal.offset-bounds-list-place-2
-offset-bounds-list-place-2 g c = let h = standing_place c.args.count c.args.list.now c.args.place c.requires in search rules
+pub offset_bounds-list-place-2 : goal.offset_bounds-list-place-2
+offset_bounds-list-place-2 g c = let h = standing_place c.args.count c.args.list.now c.args.place c.requires in search rules
 
-pub slice-bounds-shift-back-count : goal.slice-bounds-shift-back-count
-slice-bounds-shift-back-count g c = omega (arith, length-take c.args.count c.args.list.now)
+pub slice_bounds-shift_back-count : goal.slice_bounds-shift_back-count
+slice_bounds-shift_back-count g c = omega (arith, length-take c.args.count c.args.list.now)
 
-pub slice-bounds-shift-back-start : goal.slice-bounds-shift-back-start
-slice-bounds-shift-back-start g c = omega (arith, length-take c.args.count c.args.list.now)
+pub slice_bounds-shift_back-start : goal.slice_bounds-shift_back-start
+slice_bounds-shift_back-start g c = omega (arith, length-take c.args.count c.args.list.now)
 
 pub returns : goal.returns
 returns g c =
@@ -29,7 +29,7 @@ returns g c =
     let n = c.args.count in
     let i = c.args.place in
     let e = c.index-list-place.result in
-    let after = closed xs n c.min-end.result (omega (arith, length-take n xs, c.min-end.ensures)) i e c.shift-back.result c.shift-back.new.part (omega (arith, length-take n xs, c.min-end.ensures)) c.index-list-place.is c.shift-back.ensures in
+    let after = closed xs n c.min-end.result (omega (arith, length-take n xs, c.min-end.ensures)) i e c.shift_back.result c.shift_back.new.part (omega (arith, length-take n xs, c.min-end.ensures)) c.index-list-place.is c.shift_back.ensures in
     record {
       item = standing_nth n xs i e c.requires c.index-list-place.is;
       front = after.front;
