@@ -1,8 +1,7 @@
 // The key under which a lot keeps an item.
 ghost use Rattle.std.specs.Ordering.{nat_cmp};
 ghost use Rattle.std.specs.Cmp.{nat_cmp_total};
-ghost use Rattle.table.proofs.Orders;
-ghost use Rattle.table.proofs.Orders.{exact_unsigned};
+ghost use Rattle.table.proofs.Orders.{order, exact_unsigned};
 
 use crate::Item;
 use table::Entry;
@@ -14,7 +13,7 @@ impl Entry for Item {
 
     ghost compare = { nat_cmp };
 
-    ghost total = { Orders.order nat_cmp_total exact_unsigned };
+    ghost total = { order nat_cmp_total exact_unsigned };
 
     fn key(&self) -> u32 {
         self.number

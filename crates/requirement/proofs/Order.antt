@@ -1,5 +1,5 @@
 -- The order of a requirement's checks: what each exit of its making answers.
-use Rattle.std.proofs.Common.{◌≡◌, true, pos, Some, None, Ok, Err, Option, Result, ap, ◌∙◌}
+use Rattle.std.proofs.Common.{◌≡◌, true, pos, Some, Ok, Err, Option, Result, ap, ◌∙◌}
 use Rattle.faults.specs.declared.Refusal.{Refusal}
 use Rattle.faults.specs.declared.Fault.{Fault}
 use Rattle.faults.specs.Faults.{first_of, AnswersBy}

@@ -2,8 +2,7 @@
 ghost use Rattle.requirement.specs.Keys.{key_of};
 ghost use Rattle.std.specs.Ordering.{nat_cmp, ordering_then};
 ghost use Rattle.std.specs.Cmp.{nat_cmp_total, then_total, on_total};
-ghost use Rattle.table.proofs.Orders;
-ghost use Rattle.table.proofs.Orders.{exact_unsigned, exact_pairs};
+ghost use Rattle.table.proofs.Orders.{order, exact_unsigned, exact_pairs};
 
 use crate::Requirement;
 use table::Entry;
@@ -15,7 +14,7 @@ impl Entry for Requirement {
 
     ghost compare = { (λ x y. ordering_then (nat_cmp x.0 y.0) (nat_cmp x.1 y.1)) };
 
-    ghost total = { Orders.order (then_total (on_total (λ p. p.0) nat_cmp_total) (on_total (λ p. p.1) nat_cmp_total)) (exact_pairs nat_cmp_total nat_cmp_total exact_unsigned exact_unsigned) };
+    ghost total = { order (then_total (on_total (λ p. p.0) nat_cmp_total) (on_total (λ p. p.1) nat_cmp_total)) (exact_pairs exact_unsigned exact_unsigned) };
 
     fn key(&self) -> (u8, u8) {
         (self.class(), self.characteristic())

@@ -2,11 +2,9 @@
 #![tactic(auto)]
 
 ghost use Rattle.std.specs.Cmp.{int_cmp_total, nat_cmp_total, then_total, on_total};
-ghost use Rattle.std.specs.Tuples.{triples};
 ghost use Rattle.table_tests.specs.Entered.{Entered};
-ghost use Rattle.std.specs.Ordering.{nat_cmp, ordering_then};
-ghost use Rattle.table.proofs.Orders;
-ghost use Rattle.table.proofs.Orders.{exact_unsigned, exact_pairs, exact_signed, exact_triples};
+ghost use Rattle.std.specs.Ordering.{int_cmp, nat_cmp, ordering_then};
+ghost use Rattle.table.proofs.Orders.{order, exact_unsigned, exact_pairs, exact_signed, exact_triples};
 
 use table::{Entry, Refused, Table};
 
@@ -26,7 +24,7 @@ impl Entry for Reading {
 
     ghost compare = { nat_cmp };
 
-    ghost total = { Orders.order nat_cmp_total exact_unsigned };
+    ghost total = { order nat_cmp_total exact_unsigned };
 
     fn key(&self) -> u32 {
         self.number
@@ -48,7 +46,7 @@ impl Entry for Limit {
 
     ghost compare = { (λ x y. ordering_then (nat_cmp x.0 y.0) (nat_cmp x.1 y.1)) };
 
-    ghost total = { Orders.order (then_total (on_total (λ p. p.0) nat_cmp_total) (on_total (λ p. p.1) nat_cmp_total)) (exact_pairs nat_cmp_total nat_cmp_total exact_unsigned exact_unsigned) };
+    ghost total = { order (then_total (on_total (λ p. p.0) nat_cmp_total) (on_total (λ p. p.1) nat_cmp_total)) (exact_pairs exact_unsigned exact_unsigned) };
 
     fn key(&self) -> (u8, u8) {
         (self.class, self.characteristic)
@@ -68,9 +66,9 @@ impl Entry for Mark {
 
     ghost key = { λ e. (e.road, e.position, e.number) };
 
-    ghost compare = { (triples nat_cmp_total int_cmp_total nat_cmp_total).cmp };
+    ghost compare = { λ x y. ordering_then (ordering_then (nat_cmp x.0 y.0) (int_cmp x.1 y.1)) (nat_cmp x.2 y.2) };
 
-    ghost total = { Orders.order (triples nat_cmp_total int_cmp_total nat_cmp_total) (exact_triples nat_cmp_total int_cmp_total nat_cmp_total exact_unsigned exact_signed exact_unsigned) };
+    ghost total = { order (then_total (then_total (on_total (λ p. p.0) nat_cmp_total) (on_total (λ p. p.1) int_cmp_total)) (on_total (λ p. p.2) nat_cmp_total)) (exact_triples exact_unsigned exact_signed exact_unsigned) };
 
     fn key(&self) -> (u16, i32, u8) {
         (self.road, self.position, self.number)
