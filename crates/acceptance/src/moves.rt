@@ -55,7 +55,7 @@ fn share_limit<K: Knowledge>(
     knowledge: &K,
 ) -> Option<Option<i64>>
     requires { (limit_in_reach limit ≡ true) × (share ≤ 500000) }
-    ensures { result ≡ share_limit (answers knowledge.now) side limit share }
+    ensures { result ≡ share_limit (K.answers knowledge.now) side limit share }
 {
     let Some(limit) = limit else {
         return Some(None);
@@ -74,7 +74,7 @@ fn by_shares<K: Knowledge>(
     knowledge: &K,
 ) -> Option<Acceptance>
     requires { (lower ≤ 500000) × (upper ≤ 500000) }
-    ensures { result ≡ both_limits (share_limit (answers knowledge.now) Side.Lower tolerance.now.lower lower) (share_limit (answers knowledge.now) Side.Upper tolerance.now.upper upper) }
+    ensures { result ≡ both_limits (share_limit (K.answers knowledge.now) Side.Lower tolerance.now.lower lower) (share_limit (K.answers knowledge.now) Side.Upper tolerance.now.upper upper) }
 {
     let lower = share_limit(Side::Lower, tolerance.lower(), lower, knowledge)?;
     let upper = share_limit(Side::Upper, tolerance.upper(), upper, knowledge)?;
@@ -88,7 +88,7 @@ fn by_rule<K: Knowledge>(
     knowledge: &K,
 ) -> Option<Acceptance>
     requires { is_expanded expanded ≡ true }
-    ensures { result ≡ acceptance requirement.now expanded (answers knowledge.now) }
+    ensures { result ≡ acceptance requirement.now expanded (K.answers knowledge.now) }
 {
     let tolerance = requirement.tolerance();
     match requirement.rule() {
@@ -103,7 +103,7 @@ pub fn limits<K: Knowledge>(
     expanded: i64,
     knowledge: &K,
 ) -> Result<Acceptance, Fault>
-    ensures { AnswersBy (limits_refusal requirement.now expanded (answers knowledge.now)) result (λ a. Some a ≡ acceptance requirement.now expanded (answers knowledge.now)) }
+    ensures { AnswersBy (limits_refusal requirement.now expanded (K.answers knowledge.now)) result (λ a. Some a ≡ acceptance requirement.now expanded (K.answers knowledge.now)) }
 {
     if !is_expanded(expanded) {
         return Err(Fault::direct(Refusal::OutOfRange));

@@ -28,7 +28,7 @@ pub(crate) fn offset_at(side: Side, place: u32) -> i64
 // Whether the side's risk is within its share for every admitted distribution, with the limit at that offset.
 fn keeps_share<K: Knowledge>(side: Side, share: u32, place: u32, knowledge: &K) -> bool
     requires { (place ≤ 4000000) × (share ≤ 500000) }
-    ensures { result ≡ keeps_share (answers knowledge.now) side share place }
+    ensures { result ≡ keeps_share (K.answers knowledge.now) side share place }
 {
     let (floor, ceiling) = knowledge.at_most(offset_at(side, place));
     match side {
@@ -40,7 +40,7 @@ fn keeps_share<K: Knowledge>(side: Side, share: u32, place: u32, knowledge: &K) 
 // The first place at which the side keeps its share, by bisection.
 pub(crate) fn first_place<K: Knowledge>(side: Side, share: u32, knowledge: &K) -> Option<u32>
     requires { share ≤ 500000 }
-    ensures first { result ≡ first_below (keeps_share (answers knowledge.now) side share) 4000001 }
+    ensures first { result ≡ first_below (keeps_share (K.answers knowledge.now) side share) 4000001 }
     ensures within { IfSome result (λ place. place ≤ 4000000) }
 {
     if !keeps_share(side, share, LAST, knowledge) {

@@ -21,7 +21,7 @@ use verdicts::verdict_on;
 // Floor and ceiling of the probability that the true value does not exceed a limit.
 fn up_to<K: Knowledge>(limit: i64, reading: i64, knowledge: &K) -> (u32, u32)
     requires { (in_reach limit ≡ true) × (in_reach reading ≡ true) }
-    ensures { (result.0 ≡ (answers knowledge.now).floor (limit -ℤ reading)) × (result.1 ≡ (answers knowledge.now).ceiling (limit -ℤ reading)) }
+    ensures { (result.0 ≡ (K.answers knowledge.now).floor (limit -ℤ reading)) × (result.1 ≡ (K.answers knowledge.now).ceiling (limit -ℤ reading)) }
 {
     knowledge.at_most(limit - reading)
 }
@@ -29,7 +29,7 @@ fn up_to<K: Knowledge>(limit: i64, reading: i64, knowledge: &K) -> (u32, u32)
 // The bracket of a reading in reach, in its three forms.
 fn bounds<K: Knowledge>(tolerance: &Tolerance, reading: i64, knowledge: &K) -> Bracket
     requires { in_reach reading ≡ true }
-    ensures { result ≡ bracketed (answers knowledge.now) tolerance.now reading }
+    ensures { result ≡ bracketed (K.answers knowledge.now) tolerance.now reading }
 {
     match (tolerance.lower(), tolerance.upper()) {
         (Some(lower), Some(upper)) => {
@@ -61,7 +61,7 @@ pub fn bracket<K: Knowledge>(
     reading: i64,
     knowledge: &K,
 ) -> Result<Bracket, Fault>
-    ensures { AnswersBy (reading_refusal reading) result (λ b. (b ≡ bracketed (answers knowledge.now) requirement.now.tolerance reading) × BracketHolds (answers knowledge.now) requirement.now.tolerance reading b) }
+    ensures { AnswersBy (reading_refusal reading) result (λ b. (b ≡ bracketed (K.answers knowledge.now) requirement.now.tolerance reading) × BracketHolds (K.answers knowledge.now) requirement.now.tolerance reading b) }
 {
     if !in_reach(reading) {
         return Err(Fault::direct(Refusal::OutOfRange));
@@ -76,7 +76,7 @@ pub fn judge<K: Knowledge>(
     reading: i64,
     knowledge: &K,
 ) -> Result<Judgement, Fault>
-    ensures { AnswersBy (judge_refusal requirement.now expanded reading (answers knowledge.now)) result (λ j. (j ≡ judged requirement.now expanded reading (answers knowledge.now)) × JudgementHolds (answers knowledge.now) requirement.now reading j) }
+    ensures { AnswersBy (judge_refusal requirement.now expanded reading (K.answers knowledge.now)) result (λ j. (j ≡ judged requirement.now expanded reading (K.answers knowledge.now)) × JudgementHolds (K.answers knowledge.now) requirement.now reading j) }
 {
     let bracket = bracket(requirement, reading, knowledge)?;
     let width = guard_width(requirement, expanded)?;

@@ -26,7 +26,7 @@ fn judged_by<K: Knowledge>(
     knowledge: &K,
 ) -> Result<Judgement, Fault>
     requires { in_range fields.now ≡ true }
-    ensures { AnswersBy (judged_refusal (requirement_for (standing sheet.now.table) fields.now) fields.now (answers knowledge.now)) result (JudgedBy (requirement_for (standing sheet.now.table) fields.now) fields.now (answers knowledge.now)) }
+    ensures { AnswersBy (judged_refusal (requirement_for (standing sheet.now.table) fields.now) fields.now (K.answers knowledge.now)) result (JudgedBy (requirement_for (standing sheet.now.table) fields.now) fields.now (K.answers knowledge.now)) }
 {
     match sheet.find(fields.class as u8, fields.characteristic as u8) {
         Some(requirement) => judge(&requirement, fields.expanded, fields.reading, knowledge),
@@ -117,8 +117,8 @@ impl<'a> Lot<'a> {
         knowledge: &K,
     ) -> Result<Judgement, Fault>
         ensures same { self.new.table.places.ghost_name ≡ self.old.table.places.ghost_name }
-        ensures outcome { Entered self.old (standing sheet.now.table) fields.now (answers knowledge.now) result self.new }
-        ensures run { EntersOn self.old (standing sheet.now.table) fields.now (answers knowledge.now) result self.new }
+        ensures outcome { Entered self.old (standing sheet.now.table) fields.now (K.answers knowledge.now) result self.new }
+        ensures run { EntersOn self.old (standing sheet.now.table) fields.now (K.answers knowledge.now) result self.new }
     {
         check_fields(fields)?;
         self.check_room(fields.number as u32)?;

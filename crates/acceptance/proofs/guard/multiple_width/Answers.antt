@@ -1,11 +1,11 @@
-use Rattle.std.proofs.Common.{◌≡◌, true, pos, ◌*ℤ◌, neg_ℤ, arith, w64, SFits}
+use Rattle.std.proofs.Common.{pos, ◌*ℤ◌, neg_ℤ, arith, w64, SFits}
 use Rattle.std.proofs.lemmas.Int.{ints, to_z-of_z}
 use Rattle.requirement.proofs.Reach.{range_out}
 use Rattle.acceptance.proofs.Widths.{product_within}
 use Rattle.acceptance.proofs.guard.multiple_width.Goals as goal
 
-pub overflow-mul-hundredths : goal.overflow-mul-hundredths
-overflow-mul-hundredths c =
+pub overflow_mul-hundredths : goal.overflow_mul-hundredths
+overflow_mul-hundredths c =
     let f = c.ranges.hundredths in
     let f' = c.ranges.expanded in
     let z = c.args.hundredths *ℤ c.args.expanded in
@@ -13,8 +13,8 @@ overflow-mul-hundredths c =
     let fits : SFits w64 z = omega (arith, ints) in
     simp to_z-of_z fits
 
-pub hundredths-up-requires : goal.hundredths-up-requires
-hundredths-up-requires c =
+pub hundredths_up-requires : goal.hundredths_up-requires
+hundredths_up-requires c =
     let f = c.ranges.hundredths in
     let f' = c.ranges.expanded in
     let z = c.args.hundredths *ℤ c.args.expanded in
@@ -31,5 +31,5 @@ returns c =
     let within = product_within c.args.hundredths c.args.expanded c.requires.0 c.requires.1 in
     let range = range_out (neg_ℤ (pos 200000000)) (pos 200000000) z within in
     let fits : SFits w64 z = omega (arith, ints) in
-    let result : SFits w64 c.hundredths_up.result = record { sfits = c.hundredths_up.type-inv } in
+    let result : SFits w64 c.hundredths_up.result = record { sfits = c.hundredths_up.type_inv } in
     simp to_z-of_z (simp to_z-of_z at c.hundredths_up.ensures)

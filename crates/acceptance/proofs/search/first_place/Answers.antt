@@ -1,13 +1,13 @@
-use Rattle.std.proofs.Common.{◌≡◌, ◌+◌, ◌-◌, ◌/◌, true, false, sym, subst, arith}
+use Rattle.std.proofs.Common.{◌≡◌, ◌+◌, ◌-◌, ◌/◌, true, sym, subst, arith}
 use Rattle.acceptance.specs.Search.{keeps_share}
 use Rattle.acceptance.proofs.FirstHits.{first_none, first_found, failed_before}
 use Rattle.acceptance.proofs.search.first_place.Goals as goal
 
-pub returns-then-not-keeps-share : goal.returns-then-not-keeps-share
-returns-then-not-keeps-share g c =
+pub returns-then-not-keeps_share : goal.returns-then-not-keeps_share
+returns-then-not-keeps_share g c =
     let k = g.K.Knowledge.answers c.args.knowledge.now in
     let rules = g.met.K.Knowledge.rules c.args.knowledge.now in
-    record { within = tt; first = sym (first_none (keeps_share k c.args.side c.args.share) 4000001 (λ i h. failed_before k rules c.args.side c.args.share i 4000000 (omega arith) (sym c.if-not-keeps-share.ensures))) }
+    record { within = tt; first = sym (first_none (keeps_share k c.args.side c.args.share) 4000001 (λ i h. failed_before k rules c.args.side c.args.share i 4000000 (omega arith) (sym c.if-not-keeps_share.ensures))) }
 
 pub loop-low-preserved : goal.loop-low-preserved
 loop-low-preserved g c =
@@ -17,7 +17,7 @@ loop-low-preserved g c =
       omega arith,
       omega arith,
       c.loop-low.invariant.2,
-      λ j h. failed_before k rules c.args.side c.args.share j middle (omega arith) (sym c.if-keeps-share.ensures),
+      λ j h. failed_before k rules c.args.side c.args.share j middle (omega arith) (sym c.if-keeps_share.ensures),
     )
 
 pub returns : goal.returns
