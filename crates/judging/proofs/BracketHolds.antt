@@ -1,15 +1,14 @@
 -- Why a bracket holds for every admitted distribution and is met by one: from the rules of the answers alone.
-use Rattle.std.proofs.Common.{◌≡◌, ℕ, ◌+◌, ◌-◌, ◌*◌, ◌≤◌, max, true, false, cond, ℤ, ◌-ℤ◌, ◌≤ℤ◌, ◌<ℤ◌, Some, None, Option, refl, ap, ◌∙◌, mul_comm, arith}
+use Rattle.std.proofs.Common.{◌≡◌, ℕ, ◌+◌, ◌-◌, ◌*◌, ◌≤◌, max, true, ℤ, ◌-ℤ◌, ◌≤ℤ◌, ◌<ℤ◌, Some, None, Option, refl, ap, ◌∙◌, mul_comm, arith}
 use native.Mathlib.Nat.{mul-sub}
-use lib.Signed.{le_z}
 use Rattle.std.proofs.lemmas.Int.{ints}
 use Rattle.knowledge.specs.Millionths.{million}
-use Rattle.knowledge.specs.Offsets.{Offset, least, greatest}
+use Rattle.knowledge.specs.Offsets.{Offset}
 use Rattle.knowledge.specs.Knowledge.{Answers, Rules}
 use Rattle.knowledge.specs.Distributions.{Distribution, Admitted}
 use Rattle.knowledge.proofs.Witnesses.{Between, over_million, is_admitted, floor_is_between, ceiling_is_between, spliced, spliced_at, spliced_beyond, spliced_between}
 use Rattle.requirement.proofs.Reach.{reach_out}
-use Rattle.requirement.specs.Limits.{in_reach, limit_in_reach, ascending, some_limit}
+use Rattle.requirement.specs.Limits.{in_reach, limit_in_reach, ascending}
 use Rattle.requirement.specs.declared.tolerance.Tolerance.{Tolerance}
 use Rattle.judging.specs.Brackets.{floor_between, ceiling_between, bracketed}
 use Rattle.judging.specs.Guarantee.{parts_between, BracketHolds}

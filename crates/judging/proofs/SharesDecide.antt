@@ -1,11 +1,10 @@
 -- Why shares decide exactly: the acceptance limit of a side, the answer at the offset to its limit, and every admitted
 -- distribution's risk on that side say the same.
-use Rattle.std.proofs.Common.{◌≡◌, ℕ, ◌+◌, ◌-◌, ◌*◌, ◌<◌, ◌≤◌, Bool, true, false, cond, leb, ℤ, pos, ◌+ℤ◌, ◌-ℤ◌, nat_abs, ◌≤ℤ◌, Some, None, Option, sym, refl, ap, ◌∙◌, subst, ⊎_elim, mul-le-mul_right, mul_comm, arith, MatchOption}
+use Rattle.std.proofs.Common.{◌≡◌, ℕ, ◌-◌, ◌*◌, ◌<◌, ◌≤◌, Bool, true, false, cond, ℤ, ◌-ℤ◌, nat_abs, Some, None, Option, sym, refl, ap, ◌∙◌, subst, ⊎_elim, mul-le-mul_right, mul_comm, arith}
 use native.Mathlib.Nat.{mul-sub}
-use lib.Signed.{le_z}
 use Rattle.std.specs.Option.{option_map}
 use Rattle.std.proofs.lemmas.Int.{ints}
-use Rattle.std.proofs.lemmas.Bool.{leb-true, le-leb, lt-leb, true≢false, cases_Bool, cases_lt, and_parts, and_from}
+use Rattle.std.proofs.lemmas.Bool.{leb-true, le-leb, true≢false, cases_lt, and_parts, and_from}
 use Rattle.knowledge.specs.Millionths.{million}
 use Rattle.knowledge.specs.Offsets.{Offset, least, greatest}
 use Rattle.knowledge.specs.Knowledge.{Answers, Rules}
@@ -21,10 +20,9 @@ use Rattle.acceptance.proofs.FirstHits.{Says, says, keeps_on}
 use Rattle.requirement.specs.declared.requirements.Requirement.{Requirement}
 use Rattle.requirement.specs.declared.rules.Mode.{Mode}
 use Rattle.requirement.specs.declared.rules.Mode.TheVariants.{Two, Four}
-use Rattle.judging.specs.declared.answers.Verdict.{Verdict}
 use Rattle.judging.specs.declared.answers.Verdict.TheVariants.{Pass, ConditionalPass, ConditionalFail, Fail}
 use Rattle.judging.specs.Verdicts.{accepts, widened, not_accepted, verdict_by}
-use Rattle.judging.specs.Guarantee.{beyond, WithinShares, SharesDecide}
+use Rattle.judging.specs.Guarantee.{beyond, SharesDecide}
 use Rattle.judging.proofs.BracketHolds.{offset_of}
 
 -- every offset has its place in the order of the search

@@ -4,8 +4,8 @@ use Rattle.requirement.proofs.Reach.{both_ascend}
 use Rattle.judging.proofs.BracketHolds.{least_under_most}
 use Rattle.judging.proofs.bounds.Goals as goal
 
-pub overflow-sub-result : goal.overflow-sub-result
-overflow-sub-result g c =
+pub overflow_sub-result : goal.overflow_sub-result
+overflow_sub-result g c =
     let k = g.K.Knowledge.answers c.args.knowledge.now in
     let rules = g.met.K.Knowledge.rules c.args.knowledge.now in
     let t = c.args.tolerance.now in
@@ -14,14 +14,14 @@ overflow-sub-result g c =
     let under = least_under_most k rules s.lower s.upper c.args.reading before in
     grind (arith, ints, to_z-of_z, under)
 
-pub overflow-sub-result-in-Some-None : goal.overflow-sub-result-in-Some-None
-overflow-sub-result-in-Some-None g c =
+pub overflow_sub-result-in-Some-None : goal.overflow_sub-result-in-Some-None
+overflow_sub-result-in-Some-None g c =
     let rules = g.met.K.Knowledge.rules c.args.knowledge.now in
     let capped = rules.capped (c.in-Some-None.lower -ℤ c.args.reading) in
     grind (arith, ints, to_z-of_z, capped)
 
-pub overflow-sub-result-in-Some-None-2 : goal.overflow-sub-result-in-Some-None-2
-overflow-sub-result-in-Some-None-2 g c =
+pub overflow_sub-result-in-Some-None-2 : goal.overflow_sub-result-in-Some-None-2
+overflow_sub-result-in-Some-None-2 g c =
     let rules = g.met.K.Knowledge.rules c.args.knowledge.now in
     let capped = rules.capped (c.in-Some-None.lower -ℤ c.args.reading) in
     let ordered = rules.ordered (c.in-Some-None.lower -ℤ c.args.reading) in

@@ -15,6 +15,6 @@ returns g c =
     let y = c.args.reading in
     let fits = c.ranges.reading in
     let rules = g.met.K.Knowledge.rules c.args.knowledge.now in
-    let reach = simp to_z-of_z at (sym c.if-not-in-reach.ensures) in
+    let reach = simp to_z-of_z at (sym c.if-not-in_reach.ensures) in
     let is : c.bounds.result ≡ bracketed k t y = (simp to_z-of_z at c.bounds.ensures) ∙ ap (λ x. bracketed k x y) c.tolerance.ensures in
     passed _ (in_reach y) OutOfRange None _ reach (is, subst (BracketHolds k t y) (sym is) (bracket_holds k rules t y reach))

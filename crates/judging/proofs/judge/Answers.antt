@@ -8,40 +8,40 @@ use Rattle.acceptance.specs.Guard.{width_of, width_refusal}
 use Rattle.judging.proofs.Order.{by_width, by_limits, answered}
 use Rattle.judging.proofs.judge.Goals as goal
 
-pub returns-in-err-width : goal.returns-in-err-width
-returns-in-err-width g c =
+pub returns-in_err-width : goal.returns-in_err-width
+returns-in_err-width g c =
     let k = g.K.Knowledge.answers c.args.knowledge.now in
     let rules = g.met.K.Knowledge.rules c.args.knowledge.now in
     let f = c.ranges.reading in
     let f' = c.ranges.expanded in
-    let p = err_from_is_err_and c.from-residual-in-err-width.result c.from-residual-in-err-width.ensures.1 in
+    let p = err_from_is_err_and c.from_residual-in_err-width.result c.from_residual-in_err-width.ensures.1 in
     rw (p.1, p.2)
-    (by_width k rules c.args.requirement.now c.args.expanded c.args.reading c.in-ok-bracket.bracket
-    (simp to_z-of_z at c.in-ok-bracket.ensures) _ _ (simp to_z-of_z at c.in-err-width.ensures))
+    (by_width k rules c.args.requirement.now c.args.expanded c.args.reading c.in_ok-bracket.bracket
+    (simp to_z-of_z at c.in_ok-bracket.ensures) _ _ (simp to_z-of_z at c.in_err-width.ensures))
 
-pub returns-in-err-acceptance : goal.returns-in-err-acceptance
-returns-in-err-acceptance g c =
+pub returns-in_err-acceptance : goal.returns-in_err-acceptance
+returns-in_err-acceptance g c =
     let k = g.K.Knowledge.answers c.args.knowledge.now in
     let rules = g.met.K.Knowledge.rules c.args.knowledge.now in
     let f = c.ranges.reading in
     let f' = c.ranges.expanded in
-    let p = err_from_is_err_and c.from-residual-in-err-acceptance.result c.from-residual-in-err-acceptance.ensures.1 in
+    let p = err_from_is_err_and c.from_residual-in_err-acceptance.result c.from_residual-in_err-acceptance.ensures.1 in
     rw (p.1, p.2)
-    (by_limits k rules c.args.requirement.now c.args.expanded c.args.reading c.in-ok-bracket.bracket
-    (simp to_z-of_z at c.in-ok-bracket.ensures) _ (simp to_z-of_z at c.in-err-acceptance.ensures))
+    (by_limits k rules c.args.requirement.now c.args.expanded c.args.reading c.in_ok-bracket.bracket
+    (simp to_z-of_z at c.in_ok-bracket.ensures) _ (simp to_z-of_z at c.in_err-acceptance.ensures))
 
 pub returns : goal.returns
 returns g c =
     let k = g.K.Knowledge.answers c.args.knowledge.now in
     let rules = g.met.K.Knowledge.rules c.args.knowledge.now in
     let q = c.args.requirement.now in
-    let w = c.in-ok-width.width in
+    let w = c.in_ok-width.width in
     let f = c.ranges.reading in
     let f' = c.ranges.expanded in
     let width = its_value (λ x. (x ≡ width_of q.rule c.args.expanded) × (from_to (neg_ℤ (pos 2000000)) (pos 2000000) x ≡ true)) (width_refusal c.args.expanded) w
-    (simp to_z-of_z at c.in-ok-width.ensures) in
+    (simp to_z-of_z at c.in_ok-width.ensures) in
     let range = range_out (neg_ℤ (pos 2000000)) (pos 2000000) w width.1 in
     let fits : SFits w64 w = omega (arith, ints) in
-    answered k rules q c.args.expanded c.args.reading c.in-ok-bracket.bracket (simp to_z-of_z at c.in-ok-bracket.ensures)
-    c.in-ok-acceptance.acceptance (simp to_z-of_z at c.in-ok-acceptance.ensures) w width.0 c.verdict-on-verdict.result
-    (simp to_z-of_z at c.verdict-on-verdict.ensures)
+    answered k rules q c.args.expanded c.args.reading c.in_ok-bracket.bracket (simp to_z-of_z at c.in_ok-bracket.ensures)
+    c.in_ok-acceptance.acceptance (simp to_z-of_z at c.in_ok-acceptance.ensures) w width.0 c.verdict_on-verdict.result
+    (simp to_z-of_z at c.verdict_on-verdict.ensures)
