@@ -1,5 +1,5 @@
 -- What the table's answer to an insertion says of the sheet's.
-use Rattle.std.proofs.Common.{◌≡◌, ℕ, true, false, not, ltb, length, is_some, None, Ok, Err, Option, refl, ap}
+use Rattle.std.proofs.Common.{◌≡◌, ℕ, not, ltb, length, is_some, None, Ok, Err, Option, ap}
 use Rattle.std.proofs.lemmas.Bool.{lt-ltb, le-ltb}
 use Rattle.faults.specs.declared.Refusal.{Refusal}
 use Rattle.faults.specs.declared.Refusal.TheVariants.{DuplicateRequirement, SheetFull}

@@ -1,8 +1,8 @@
 -- Looking a requirement up in a sheet: what is found has the key, and where nothing is found no requirement has it.
-use Rattle.std.proofs.Common.{◌≡◌, ℕ, zero, suc, ◌+◌, ◌<◌, ◌≤◌, Bool, true, false, cond, not, ◌&&◌, eqb, List, [], ◌∷◌, map, length, get_or, is_some, Some, None, Option, sym, refl, ap, ◌∙◌, subst, ⊎_elim, arith}
+use Rattle.std.proofs.Common.{◌≡◌, ℕ, zero, suc, Bool, true, false, cond, ◌&&◌, eqb, List, [], ◌∷◌, map, get_or, is_some, Some, None, Option, sym, refl, ap, ◌∙◌, arith}
 use Rattle.std.specs.Cmp.{nat_cmp_total, then_total, on_total}
-use Rattle.std.specs.List.{HoldsAt, ContainsAt as Has}
-use Rattle.std.proofs.lemmas.Bool.{cases_Bool, and_parts, and_from, eqb-true, eq-eqb, true≢false}
+use Rattle.std.specs.List.{ContainsAt as Has}
+use Rattle.std.proofs.lemmas.Bool.{and_parts, and_from, eqb-true, eq-eqb, true≢false}
 use Rattle.requirement.specs.Keys.{key_of}
 use Rattle.requirement.specs.declared.requirements.Requirement.{Requirement}
 use Rattle.table.specs.Changes.{Picked}
@@ -62,7 +62,7 @@ module _ (qs : List Requirement) (ascending : Ascending key_of (λ x y. ordering
       let i = hx.0 in
       let j = hy.0 in
       let keys = ap key_of (hx.2 x) ∙ e ∙ sym (ap key_of (hy.2 x)) in
-      let place = one_place key_of (order (then_total (on_total (λ p. p.0) nat_cmp_total) (on_total (λ p. p.1) nat_cmp_total)) (exact_pairs nat_cmp_total nat_cmp_total exact_unsigned exact_unsigned)) qs ascending i j x hx.1 hy.1 keys in
+      let place = one_place key_of (order (then_total (on_total (λ p. p.0) nat_cmp_total) (on_total (λ p. p.1) nat_cmp_total)) (exact_pairs exact_unsigned exact_unsigned)) qs ascending i j x hx.1 hy.1 keys in
       sym (hx.2 x) ∙ ap (λ n. get_or qs n x) place ∙ hy.2 x
 
   -- so what is picked is what is looked up
