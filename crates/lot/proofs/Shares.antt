@@ -1,16 +1,13 @@
 -- Rows by class, when an item is put in or taken out: the row of its class gains or loses its share, and no other row changes.
-use Rattle.std.proofs.Common.{◌≡◌, ℕ, zero, suc, ◌+◌, ◌-◌, ◌*◌, ◌<◌, ◌≤◌, Bool, true, false, cond, ◌&&◌, T, eqb, leb, List, [], ◌∷◌, length, get_or, set, Some, sum_by, sym, refl, ap, ◌∙◌, subst, ⊎_elim, add-mul, arith}
-use Rattle.std.specs.List.{slice_get, insert, remove, list_all}
+use Rattle.std.proofs.Common.{◌≡◌, ℕ, zero, suc, ◌+◌, ◌-◌, ◌*◌, ◌≤◌, Bool, true, false, cond, ◌&&◌, T, eqb, leb, List, [], ◌∷◌, length, get_or, set, Some, sym, refl, ap, ◌∙◌, subst, ⊎_elim, add-mul, arith}
+use Rattle.std.specs.List.{slice_get, insert, remove}
 use Rattle.std.proofs.lemmas.List.{length-set, get_or-set_same, get_or-set_other}
 use Rattle.std.proofs.lemmas.List.Sums.{sum_by-cons}
 use Rattle.std.proofs.lemmas.Bool.{and_parts, leb-true, eq-eqb, ne_eqb, cond-true, cond-false, cases_eq}
-use Rattle.knowledge.specs.Millionths.{million}
-use Rattle.judging.specs.declared.answers.Verdict.{Verdict}
-use Rattle.judging.specs.declared.answers.Verdict.TheVariants.{Pass, ConditionalPass, ConditionalFail, Fail}
 use Rattle.judging.specs.declared.answers.Judgement.{Judgement}
 use Rattle.table.proofs.Contents.{sum_inserted, sum_removed}
 use Rattle.table.proofs.Standing.{nth_at}
-use Rattle.lot.specs.Rows.{on_pass, on_conditional_pass, on_conditional_fail, on_fail, share_of, plus, minus, summed, row_of, of_a_class, Classed, Tallied}
+use Rattle.lot.specs.Rows.{share_of, plus, minus, summed, row_of, of_a_class, Classed, Tallied}
 use Rattle.lot.specs.declared.items.Item.{Item}
 use Rattle.lot.specs.declared.items.Row.{Row}
 

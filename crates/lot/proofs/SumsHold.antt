@@ -1,9 +1,8 @@
 -- Why the risk sums over passes hold for every choice of admitted distributions: note by note, over the product of the parts.
-use Rattle.std.proofs.Common.{◌≡◌, ℕ, ◌+◌, ◌-◌, ◌*◌, ◌≤◌, true, List, [], ◌∷◌, None, refl, ap, mul-le-mul_right, mul_assoc, mul_comm, add-mul, mul-add, arith}
+use Rattle.std.proofs.Common.{◌≡◌, ℕ, ◌+◌, ◌-◌, ◌*◌, ◌≤◌, List, [], ◌∷◌, refl, ap, mul-le-mul_right, mul_assoc, mul_comm, add-mul, mul-add, arith}
 use native.Mathlib.Nat.{mul-sub}
 use Rattle.std.specs.List.{AllByRecursion as All}
 use Rattle.knowledge.specs.Millionths.{million}
-use Rattle.knowledge.specs.Distributions.{Distribution, Admitted}
 use Rattle.judging.specs.Guarantee.{conforming, BracketHolds}
 use Rattle.judging.proofs.Order.{judged_bracket}
 use Rattle.lot.specs.Notes.{Note, Judgeable, judgement}

@@ -1,5 +1,5 @@
 -- The book of a lot: drawn from the making and the calls alone.
-use Rattle.std.specs.Prelude.{ℕ, Bool, true, false, cond, not, ◌&&◌, ◌||◌, List, [], ◌∷◌, map, length, ℤ, pos, Some, None, Option, ◌==◌, nat_lt, unsigned_abs}
+use Rattle.std.specs.Prelude.{ℕ, Bool, false, cond, not, ◌&&◌, ◌||◌, List, [], ◌∷◌, map, length, ℤ, pos, Some, None, Option, ◌==◌, nat_lt, unsigned_abs}
 use Rattle.faults.specs.declared.Refusal.{Refusal}
 use Rattle.faults.specs.declared.Refusal.TheVariants.{OutOfRange, DuplicateItem, LotFull, NoItem, NoPlace, NoRequirement}
 use Rattle.faults.specs.Faults.{check, first_of}
