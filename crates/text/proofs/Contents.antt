@@ -1,10 +1,10 @@
 -- The contents of a record's fields: parts of the text, with each quote doubled between quotes.
-use Rattle.std.proofs.Common.{◌≡◌, ℕ, Bool, true, false, cond, ◌&&◌, eqb, ◌⊎◌, List, [], ◌∷◌, ◌++◌, length, take, drop, sym, refl, ap, ◌∙◌, subst, inl, inr, ⊎_elim, append_assoc, append-nil, arith}
+use Rattle.std.proofs.Common.{◌≡◌, ℕ, ◌⊎◌, List, [], ◌∷◌, ◌++◌, length, take, sym, refl, ap, ◌∙◌, subst, inl, inr, ⊎_elim, append_assoc, append-nil, arith}
 use Rattle.std.specs.List.{flat_map, AllByRecursion as All}
 use Rattle.std.proofs.lemmas.List.{take_at, drop_at}
 use Rattle.std.proofs.lemmas.Bool.Decides.{nat_tests, eqb_tells}
 use Rattle.text.specs.Content.{singled, twice, holds, Doubled, Part}
-use Rattle.text.specs.Grammar.{COMMA, CR, LF, DQUOTE, Inside, nothing, other, doubled, Form, non_escaped, escaped, IsField, spelling, IsRecord, spelled_record}
+use Rattle.text.specs.Grammar.{COMMA, CR, LF, DQUOTE, Inside, nothing, other, doubled, Form, non_escaped, escaped, IsField, spelling, spelled_record}
 use Rattle.text.specs.Records.{Begins}
 use Rattle.text.proofs.Rows.{after_comma}
 

@@ -1,5 +1,5 @@
 -- The fields of a record that are gathered so far, each with its comma.
-use Rattle.std.proofs.Common.{◌≡◌, ℕ, ◌+◌, ◌<◌, ◌≤◌, ◌⊎◌, List, [], ◌∷◌, ◌++◌, map, length, set, sym, refl, ap, ◌∙◌, subst, inl, inr, ⊎_elim, append_assoc, append-nil, arith, length-append}
+use Rattle.std.proofs.Common.{◌≡◌, ℕ, ◌+◌, ◌<◌, ◌≤◌, ◌⊎◌, List, [], ◌∷◌, ◌++◌, length, set, sym, refl, ap, ◌∙◌, subst, inl, inr, ⊎_elim, append_assoc, append-nil, arith, length-append}
 use lib.ListN.{length-map}
 use Rattle.std.specs.List.{flat_map, AllByRecursion as All}
 use Rattle.std.proofs.ByRecursion.{All-push}
@@ -9,7 +9,7 @@ use Rattle.text.specs.declared.field.Placed.{Placed}
 use Rattle.text.specs.declared.machine.Ending.{Ending}
 use Rattle.text.specs.declared.machine.Ending.TheVariants.{Comma, Line, Text}
 use Rattle.text.specs.Fronts.{form, forms, Numbered, laid, Ended, Leads}
-use Rattle.text.specs.Grammar.{COMMA, CR, LF, Form, IsField, spelling, IsRecord, spelled_record}
+use Rattle.text.specs.Grammar.{COMMA, CR, LF, Form, IsField, spelling, spelled_record}
 use Rattle.text.specs.Offences.{Offence}
 use Rattle.text.specs.Records.{Begins, Breaks}
 use Rattle.text.proofs.Rows.{after_comma, before_comma}

@@ -1,10 +1,10 @@
 -- Records: the first one of a text is determined, and so is the first offence.
-use Rattle.std.proofs.Common.{◌≡◌, ℕ, ◌+◌, ◌<◌, ◌≤◌, ◌⊎◌, List, [], ◌∷◌, ◌++◌, length, sym, refl, ap, ◌∙◌, subst, inl, inr, ⊎_elim, append_assoc, append-nil, arith, length-append}
+use Rattle.std.proofs.Common.{◌≡◌, ℕ, ◌⊎◌, List, [], ◌∷◌, ◌++◌, length, sym, refl, ap, ◌∙◌, subst, inl, inr, ⊎_elim, append_assoc, append-nil, arith, length-append}
 use Rattle.std.specs.List.{flat_map, AllByRecursion as All}
 use Rattle.faults.specs.declared.Refusal.{Refusal}
-use Rattle.text.specs.Grammar.{COMMA, CR, LF, Form, IsField, spelling, IsRecord, spelled_record, spelled, last_of, IsText}
+use Rattle.text.specs.Grammar.{COMMA, CR, LF, Form, IsField, spelling, IsRecord, spelled_record}
 use Rattle.text.specs.Offences.{Follows, the_end, a_comma, a_line_end, Offence, unclosed, run_on, stray, Stray, quote, lf, cr}
-use Rattle.text.specs.Records.{Begins, Breaks, First, Broken}
+use Rattle.text.specs.Records.{Begins, Breaks}
 use Rattle.text.proofs.Unique.{head_is, tail_is, no_cons, field_once, field_stands, offence_once}
 
 -- a field after its comma, and before it

@@ -1,12 +1,12 @@
 -- What each step of the machine does to the bytes read so far.
-use Rattle.std.proofs.Common.{◌≡◌, ℕ, ◌+◌, ◌<◌, Bool, true, false, ◌⊎◌, List, [], ◌∷◌, ◌++◌, length, sym, refl, ap, ◌∙◌, subst, inl, inr, ⊎_elim, append_assoc, arith, length-append}
+use Rattle.std.proofs.Common.{◌≡◌, ℕ, ◌<◌, Bool, true, false, List, [], ◌∷◌, ◌++◌, length, sym, refl, ap, ◌∙◌, subst, append_assoc, arith, length-append}
 use Rattle.std.specs.List.{AllByRecursion as All}
 use Rattle.std.proofs.ByRecursion.{All-push}
 use Rattle.faults.specs.declared.Refusal.TheVariants.{BrokenQuotes, StrayByte}
 use Rattle.text.specs.declared.machine.State.{State}
 use Rattle.text.specs.declared.machine.State.TheVariants.{Start, Bare, Quoted, AfterQuote}
 use Rattle.text.specs.Grammar.{COMMA, CR, LF, DQUOTE, TEXTDATA, Inside, nothing, other, doubled}
-use Rattle.text.specs.Offences.{Follows, the_end, a_comma, a_line_end, Unquoted, Stray, quote, lf, cr, Offence, unclosed, run_on, stray}
+use Rattle.text.specs.Offences.{Follows, a_comma, a_line_end, Unquoted, Stray, quote, lf, cr, Offence, run_on, stray}
 use Rattle.text.specs.Machine.{SoFar}
 
 inside_other : {qs : List ℕ} (b : ℕ) → (b ≡ DQUOTE → ⊥) → Inside qs → Inside (qs ++ b ∷ [])

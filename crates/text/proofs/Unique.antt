@@ -2,8 +2,7 @@
 use Rattle.std.proofs.Common.{◌≡◌, ℕ, List, [], ◌∷◌, ◌++◌, sym, refl, ap, ◌∙◌, subst, append_assoc, arith}
 use Rattle.std.specs.List.{AllByRecursion as All}
 use Rattle.faults.specs.declared.Refusal.{Refusal}
-use Rattle.faults.specs.declared.Refusal.TheVariants.{BrokenQuotes, StrayByte}
-use Rattle.text.specs.Grammar.{COMMA, CR, LF, DQUOTE, TEXTDATA, Inside, nothing, other, doubled, Form, non_escaped, escaped, IsField, spelling}
+use Rattle.text.specs.Grammar.{DQUOTE, TEXTDATA, Inside, nothing, other, doubled, Form, non_escaped, escaped, IsField, spelling}
 use Rattle.text.specs.Offences.{Follows, the_end, a_comma, a_line_end, Unquoted, Stray, quote, lf, cr, Offence, unclosed, run_on, stray}
 
 pub head_is : {a b : ℕ} {xs ys : List ℕ} → a ∷ xs ≡ b ∷ ys → a ≡ b

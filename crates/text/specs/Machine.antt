@@ -3,7 +3,6 @@ use Rattle.std.specs.Prelude.{◌≡◌, ℕ, ◌<◌, Bool, true, List, [], ◌
 use Rattle.std.specs.List.{AllByRecursion as All}
 use Rattle.text.specs.declared.machine.State.{State}
 use Rattle.text.specs.declared.machine.State.TheVariants.{Start, Bare, Quoted, AfterQuote}
-use Rattle.text.specs.declared.machine.Ending.{Ending}
 use Rattle.text.specs.declared.machine.Ending.TheVariants.{Comma, Line, Text}
 use Rattle.text.specs.declared.machine.Effect.{Effect}
 use Rattle.text.specs.declared.machine.Effect.TheVariants.{On, Off, Refused}

@@ -1,4 +1,4 @@
-use Rattle.std.proofs.Common.{◌≡◌, true, false, ⊎_elim, arith}
+use Rattle.std.proofs.Common.{⊎_elim, arith}
 use Rattle.text.proofs.Steps.{opened, kept, reopened, bared, stray_quote, stray_lf, stray_cr, runs_on}
 use Rattle.text.proofs.machine.step.Goals as goal
 
