@@ -1,4 +1,4 @@
-use Rattle.std.proofs.Common.{◌+◌, ◌*◌, ◌^◌, ◌<◌, length, get_or, sym, refl, subst, arith}
+use Rattle.std.proofs.Common.{◌+◌, ◌*◌, sym, refl, subst, arith}
 use Rattle.fields.proofs.Places.{Sofar, small, one_more, all_read, no_digit}
 use Rattle.fields.proofs.numbers.unsigned.Goals as goal
 
