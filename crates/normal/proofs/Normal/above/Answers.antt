@@ -1,5 +1,5 @@
 use Rattle.std.proofs.Common.{arith}
-use Rattle.normal.proofs.Halves.{between}
+use Rattle.normal.proofs.Answered.{between}
 use Rattle.normal.proofs.Normal.above.Goals as goal
 
 pub overflow-cast-floor : goal.overflow-cast-floor

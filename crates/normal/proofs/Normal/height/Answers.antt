@@ -1,5 +1,5 @@
 use Rattle.std.proofs.Common.{◌≡◌, ◌+◌, ◌*◌, ◌%◌, ◌<◌, ◌≤◌, ◌∙◌, arith}
-use Rattle.normal.proofs.Heights.{height_from, not_high}
+use Rattle.normal.specs.Heights.{height_from, not_high}
 use Rattle.normal.proofs.Normal.height.Goals as goal
 
 -- the chord is no higher than the table's last value

@@ -4,7 +4,8 @@ use Rattle.std.proofs.lemmas.Int.{ints, to_z-of_z}
 use Rattle.knowledge.specs.Millionths.{million}
 use Rattle.knowledge.specs.Offsets.{nearest}
 use Rattle.normal.specs.Normal.{floor_above, ceiling_above}
-use Rattle.normal.proofs.Halves.{floor_upper, ceiling_upper, above_reading, below_reading}
+use Rattle.normal.specs.Halves.{floor_upper, ceiling_upper}
+use Rattle.normal.proofs.Answered.{above_reading, below_reading}
 use Rattle.normal.proofs.NormalKnowledge.at_most.Goals as goal
 
 -- neither 0 nor above it

@@ -1,5 +1,5 @@
 use Rattle.std.proofs.Common.{◌≡◌, ◌+◌, ◌<◌, arith}
-use Rattle.normal.proofs.Values.{next, shrinks}
+use Rattle.normal.specs.Values.{next, shrinks}
 use Rattle.normal.proofs.table.chord_over.Goals as goal
 
 pub overflow-sub-result : goal.overflow-sub-result
