@@ -1,11 +1,10 @@
 -- Floor and ceiling above the reading: ordered, rising, narrow, and settled from four standard uncertainties on.
-use Rattle.std.proofs.Common.{◌≡◌, ℕ, ◌+◌, ◌-◌, ◌*◌, ◌<◌, ◌≤◌, min, max, cond, ltb, ◌⊎◌, ℤ, pos, nat_abs, ◌<ℤ◌, sym, inl, inr, ⊎_elim, mul-le-mul_right, arith}
+use Rattle.std.proofs.Common.{◌≡◌, ℕ, ◌+◌, ◌-◌, ◌*◌, ◌<◌, ◌≤◌, min, max, ltb, ◌⊎◌, inl, inr, ⊎_elim, arith}
 use Rattle.std.proofs.lemmas.Nat.{le-div}
 use Rattle.std.proofs.lemmas.Bool.{cases_lt, cond-true, cond-false, lt-ltb, le-ltb}
 use Rattle.knowledge.specs.Millionths.{million, rounded_down, rounded_up}
-use Rattle.knowledge.specs.Offsets.{nearest}
 use Rattle.knowledge.proofs.Rounding.{down_rises, up_above, up_near, up_rises, up_least}
-use Rattle.normal.specs.Normal.{tenths, height, floor_above, ceiling_above, normal}
+use Rattle.normal.specs.Normal.{tenths, height, floor_above, ceiling_above}
 use Rattle.normal.specs.Heights.{not_low as low, not_high as high, rises}
 use Rattle.normal.specs.Mirror.{Upper}
 
