@@ -1,12 +1,12 @@
 #!/usr/bin/env python3
-"""Compare the program `conform` with the plain Rust program in bench/rust.
+"""Compare the program conform_records, which ./conform runs, with the plain Rust program in bench/rust.
 
     python3 bench/compare.py [COUNT [SEED]]    COUNT inputs (5000), random from SEED (1)
     python3 bench/compare.py --benchmark       instructions and times on large inputs
 
 The first form runs both programs on every input and compares what they write
 and their exit status. It ends at the first difference and leaves the input in
-target/bench/difference.txt. Run from the root of the repository.
+bench/out/difference.txt. Run from the root of the repository.
 """
 
 import collections
@@ -21,16 +21,16 @@ import tempfile
 import time
 
 ROOT = os.path.dirname(os.path.dirname(os.path.abspath(__file__)))
-ENGINE = os.path.join(ROOT, "target", "bin", "conform")
+ENGINE = os.path.join(ROOT, "crates", "conform_records", "out", "conform_records")
 RUST = os.path.join(ROOT, "bench", "rust", "target", "release", "conform-plain")
-KEPT = os.path.join(ROOT, "target", "bench")
+KEPT = os.path.join(ROOT, "bench", "out")
 MAX_TEXT = 65536
 REFUSALS = [1, 2, 3, 10, 11, 12, 13, 20, 21, 22, 23, 24, 30, 31, 32, 40, 41]
 
 
 def prepare():
     if not os.path.exists(ENGINE):
-        sys.exit("target/bin/conform is not there: run `rt check conform` first")
+        sys.exit("crates/conform_records/out/conform_records is not there: run `./conform </dev/null` first")
     built = subprocess.run(
         ["cargo", "build", "--release", "--offline", "--quiet"],
         cwd=os.path.join(ROOT, "bench", "rust"),
@@ -49,7 +49,7 @@ def run(program, text):
 
 
 def kept(name, content):
-    """Writes content to a file of target/bench, and answers its path."""
+    """Writes content to a file of bench/out, and answers its path."""
     os.makedirs(KEPT, exist_ok=True)
     path = os.path.join(KEPT, name)
     with open(path, "wb") as opened:
@@ -444,7 +444,7 @@ def compare(count, seed):
                     break
             else:
                 print(f"bytes written: conform {len(ours[1])}, plain program {len(plain[1])}")
-            print("input: target/bench/difference.txt; outputs beside it")
+            print("input: bench/out/difference.txt; outputs beside it")
             sys.exit(1)
         agreed[kind] += 1
         reached["exit %d" % ours[0]] += 1

@@ -1,4 +1,4 @@
-//! A plain program with the same task as `conform`, written from docs/ alone.
+//! A plain program with the same task as `./conform`, written from docs/ alone.
 //!
 //! It reads record text from standard input and writes one line for each item
 //! and each refusal, and then one line for each class. docs/program.md says

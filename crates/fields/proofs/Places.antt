@@ -1,7 +1,7 @@
 -- What digits are worth by their places.
-use Rattle.std.proofs.Common.{◌≡◌, ℕ, suc, ◌+◌, ◌-◌, ◌*◌, ◌^◌, ◌<◌, ◌≤◌, List, [], ◌∷◌, ◌++◌, length, get_or, take, sym, refl, ap, ◌∙◌, subst, mul-le-mul_right, mul_assoc, add-mul, pow-suc, add-one, arith, length-append}
+use Rattle.std.proofs.Common.{◌≡◌, ℕ, ◌+◌, ◌-◌, ◌*◌, ◌^◌, ◌<◌, ◌≤◌, List, [], ◌∷◌, ◌++◌, length, get_or, take, sym, refl, ap, ◌∙◌, subst, mul-le-mul_right, mul_assoc, pow-suc, add-one, arith}
 use native.Mathlib.Nat.{pow-le-pow_right}
-use Rattle.std.specs.List.{AllByRecursion as All}
+use Rattle.std.specs.List.{AllByRecursion}
 use Rattle.std.proofs.ByRecursion.{All-more, All-get_or}
 use Rattle.std.proofs.lemmas.List.{take_more, length-take-le, length_push, take_all}
 use Rattle.fields.specs.Values.{Digit, Numeral, worth}
@@ -12,7 +12,7 @@ value_push (e ∷ ds) d =
     let place : 10 ^ length (ds ++ d ∷ []) ≡ 10 ^ length ds * 10 = ap (λ n. 10 ^ n) (length_push ds d ∙ add-one (length ds)) ∙ pow-suc 10 (length ds) in
     omega (arith, value_push ds d, ap (λ p. (e - 48) * p) place, mul_assoc (e - 48) (10 ^ length ds) 10)
 
-value_below : (ds : List ℕ) → All Digit ds → worth ds < 10 ^ length ds
+value_below : (ds : List ℕ) → AllByRecursion Digit ds → worth ds < 10 ^ length ds
 value_below [] h = omega arith
 value_below (d ∷ ds) h =
     let few : d - 48 ≤ 9 = omega (arith, h.0.not_above) in
@@ -20,7 +20,7 @@ value_below (d ∷ ds) h =
 
 -- the first i digits
 pub record Sofar (v i : ℕ) (ds : List ℕ) : Type 0 where
-  pub digits : All Digit (take i ds)
+  pub digits : AllByRecursion Digit (take i ds)
   pub is : v ≡ worth (take i ds)
 
 pub none_yet : (ds : List ℕ) → Sofar 0 0 ds
@@ -42,7 +42,7 @@ module _ (v i : ℕ) (ds : List ℕ) (so : Sofar v i ds) (few : length ds ≤ 10
   pub all_read : length ds ≤ i → 1 ≤ length ds → Numeral ds × (v ≡ worth ds)
   all_read past some =
       let whole = take_all i ds past in
-      (record { some = some; few = few; digits = subst (All Digit) whole so.digits }, so.is ∙ ap worth whole)
+      (record { some = some; few = few; digits = subst (AllByRecursion Digit) whole so.digits }, so.is ∙ ap worth whole)
 
 pub no_digit : (i : ℕ) (ds : List ℕ) → i < length ds → (Digit (get_or ds i 0) → ⊥) → Numeral ds → ⊥
 no_digit i ds lt n num = n (All-get_or Digit ds i 0 lt num.digits)

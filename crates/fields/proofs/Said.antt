@@ -1,7 +1,6 @@
 -- What a field saying, by the bytes that it holds.
 use Rattle.std.proofs.Common.{◌≡◌, ℕ, Bool, eqb, ◌⊎◌, List, [], ◌∷◌, length, get_or, ℤ, Some, None, Decides, Option, sym, refl, ap, ◌∙◌, subst, inl, inr, ⊎_elim, arith, eq-eqb, true-eqb}
 use Rattle.std.specs.Option.{SomeIff}
-use Rattle.std.specs.List.{AllByRecursion as All}
 use Rattle.std.proofs.ByRecursion.{All-weaker}
 use Rattle.std.proofs.lemmas.List.{nil_from_length}
 use Rattle.std.proofs.lemmas.Bool.{cond-true, cond-false}
@@ -9,7 +8,7 @@ use Rattle.std.proofs.lemmas.Bool.Decides.{eqb_tells}
 use Rattle.text.specs.Content.{singled, saying, holds}
 use Rattle.text.specs.Grammar.{DQUOTE, Form, non_escaped, escaped}
 use Rattle.text.proofs.Contents.{QuoteFree, single_free, free_single, single_none, single_one}
-use Rattle.fields.specs.Values.{Digit, Numeral, magnitude, IsNumber, number_of}
+use Rattle.fields.specs.Values.{Digit, Numeral, IsNumber, number_of}
 
 digits_free : (ds : List ℕ) → Numeral ds → QuoteFree ds
 digits_free ds h = All-weaker Digit (λ b. b ≡ DQUOTE → ⊥) (λ b d e. omega (arith, d.not_below, e)) ds h.digits

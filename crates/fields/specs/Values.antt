@@ -1,6 +1,6 @@
 -- How bytes say a number, a limit and a letter.
 use Rattle.std.specs.Prelude.{◌≡◌, ℕ, ◌+◌, ◌-◌, ◌*◌, ◌^◌, ◌≤◌, Bool, false, cond, ◌⊎◌, List, [], ◌∷◌, length, ℤ, pos, neg_ℤ, Some, None, Option, ◌==◌}
-use Rattle.std.specs.List.{AllByRecursion as All}
+use Rattle.std.specs.List.{AllByRecursion}
 
 -- a decimal digit, '0' to '9'
 pub record Digit (b : ℕ) : Type 0 where
@@ -11,7 +11,7 @@ pub record Digit (b : ℕ) : Type 0 where
 pub record Numeral (ds : List ℕ) : Type 0 where
   pub some : 1 ≤ length ds
   pub few : length ds ≤ 10
-  pub digits : All Digit ds
+  pub digits : AllByRecursion Digit ds
 
 -- the sum of the digits, each times its power of ten
 abbrev pub worth : List ℕ → ℕ

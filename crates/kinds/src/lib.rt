@@ -4,7 +4,7 @@
 ghost use Rattle.std.specs.Prelude.{◌≡◌};
 ghost use Rattle.faults.specs.Faults.{AnswersBy};
 ghost use Rattle.kinds.specs.Kinds.{answered, kind_refusal, HasGiven};
-ghost use Rattle.normal.proofs.Rules.{normal_rules};
+ghost use Rattle.normal.specs.Rules.{normal_rules};
 ghost use Rattle.rectangular.specs.Rules.{rectangular_rules};
 ghost use Rattle.kinds.specs.declared.Kind.TheVariants.{Normal as N, Rectangular as R};
 

@@ -1,5 +1,1 @@
-mod Values
-mod Heights
-mod Mirror
-mod Halves
-pub mod Rules
+mod Answered

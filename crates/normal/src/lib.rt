@@ -8,7 +8,7 @@ ghost use Rattle.faults.specs.Faults.{AnswersBy};
 ghost use Rattle.faults.specs.Ranges.{range_refusal};
 ghost use Rattle.knowledge.specs.Millionths.{million};
 ghost use Rattle.normal.specs.Normal.{HeightAt, floor_above, ceiling_above, normal};
-ghost use Rattle.std.proofs.Common.{rules, arith};
+ghost use Rattle.normal.specs.Rules.{normal_rules};
 
 use faults::{Fault, Refusal};
 use knowledge::{Knowledge, MILLION, nearest_offset};
@@ -86,7 +86,7 @@ impl Normal {
 impl Knowledge for Normal {
     ghost answers = { λ s. normal s.standard_uncertainty };
 
-    ghost rules = { first_of (Prim.search rules, Prim.grind (arith, Self.row.coded.inj)) };
+    ghost rules = { λ k. normal_rules k.standard_uncertainty k.some k.bounded };
 
     fn at_most(&self, offset: i64) -> (u32, u32) {
         let offset = nearest_offset(offset);

@@ -1,10 +1,10 @@
 -- The contents of a record's fields: parts of the text, with each quote doubled between quotes.
-use Rattle.std.proofs.Common.{◌≡◌, ℕ, Bool, true, false, cond, ◌&&◌, eqb, ◌⊎◌, List, [], ◌∷◌, ◌++◌, length, take, drop, sym, refl, ap, ◌∙◌, subst, inl, inr, ⊎_elim, append_assoc, append-nil, arith}
-use Rattle.std.specs.List.{flat_map, AllByRecursion as All}
+use Rattle.std.proofs.Common.{◌≡◌, ℕ, ◌⊎◌, List, [], ◌∷◌, ◌++◌, length, take, sym, refl, ap, ◌∙◌, subst, inl, inr, ⊎_elim, append_assoc, append-nil, arith}
+use Rattle.std.specs.List.{flat_map, AllByRecursion}
 use Rattle.std.proofs.lemmas.List.{take_at, drop_at}
 use Rattle.std.proofs.lemmas.Bool.Decides.{nat_tests, eqb_tells}
 use Rattle.text.specs.Content.{singled, twice, holds, Doubled, Part}
-use Rattle.text.specs.Grammar.{COMMA, CR, LF, DQUOTE, Inside, nothing, other, doubled, Form, non_escaped, escaped, IsField, spelling, IsRecord, spelled_record}
+use Rattle.text.specs.Grammar.{COMMA, CR, LF, DQUOTE, Inside, nothing, other, doubled, Form, non_escaped, escaped, IsField, spelling, spelled_record}
 use Rattle.text.specs.Records.{Begins}
 use Rattle.text.proofs.Rows.{after_comma}
 
@@ -23,7 +23,7 @@ inside_twice (doubled i) = ap (λ cs. DQUOTE ∷ DQUOTE ∷ cs) (inside_twice i)
 
 -- bytes without a quote say themselves, and what says bytes without a quote is those bytes
 abbrev pub QuoteFree : List ℕ → Type 0
-QuoteFree bs = All (λ b. b ≡ DQUOTE → ⊥) bs
+QuoteFree bs = AllByRecursion (λ b. b ≡ DQUOTE → ⊥) bs
 
 pub single_free : (bs : List ℕ) → QuoteFree bs → singled bs ≡ bs
 single_free [] h = refl
@@ -61,7 +61,7 @@ field_doubled : (f : Form) → IsField f → Doubled f
 field_doubled (non_escaped bs) h = tt
 field_doubled (escaped bs) h = inside_twice h
 
-pub all_doubled : (fs : List Form) → All IsField fs → All Doubled fs
+pub all_doubled : (fs : List Form) → AllByRecursion IsField fs → AllByRecursion Doubled fs
 all_doubled [] h = tt
 all_doubled (f ∷ fs) h = (field_doubled f h.0, all_doubled fs h.1)
 
@@ -76,24 +76,24 @@ field_part pre (escaped bs) post =
     (append_assoc pre (DQUOTE ∷ []) (bs ++ DQUOTE ∷ post) ∙ ap (λ cs. pre ++ DQUOTE ∷ cs) (sym (append_assoc bs (DQUOTE ∷ []) post)))
     (middle (pre ++ DQUOTE ∷ []) bs (DQUOTE ∷ post))
 
-more_parts : (fs : List Form) (pre post : List ℕ) → All (λ f. Part (pre ++ (flat_map after_comma fs ++ post)) (holds f)) fs
+more_parts : (fs : List Form) (pre post : List ℕ) → AllByRecursion (λ f. Part (pre ++ (flat_map after_comma fs ++ post)) (holds f)) fs
 more_parts [] pre post = tt
 more_parts (f ∷ fs) pre post =
     let rest = flat_map after_comma fs in
     let led = pre ++ COMMA ∷ [] in
     let flat = append_assoc pre (COMMA ∷ []) (spelling f ++ (rest ++ post)) ∙ ap (λ cs. pre ++ COMMA ∷ cs) (sym (append_assoc (spelling f) rest post)) in (
       subst (λ cs. Part cs (holds f)) flat (field_part led f (rest ++ post)),
-      subst (λ cs. All (λ g. Part cs (holds g)) fs) (append_assoc led (spelling f) (rest ++ post) ∙ flat) (more_parts fs (led ++ spelling f) post),
+      subst (λ cs. AllByRecursion (λ g. Part cs (holds g)) fs) (append_assoc led (spelling f) (rest ++ post) ∙ flat) (more_parts fs (led ++ spelling f) post),
     )
 
-row_parts : (fs : List Form) (post : List ℕ) → All (λ f. Part (spelled_record fs ++ post) (holds f)) fs
+row_parts : (fs : List Form) (post : List ℕ) → AllByRecursion (λ f. Part (spelled_record fs ++ post) (holds f)) fs
 row_parts [] post = tt
 row_parts (f ∷ fs) post =
     let rest = flat_map after_comma fs in
     let flat = sym (append_assoc (spelling f) rest post) in
-    (subst (λ cs. Part cs (holds f)) flat (field_part [] f (rest ++ post)), subst (λ cs. All (λ g. Part cs (holds g)) fs) flat (more_parts fs (spelling f) post))
+    (subst (λ cs. Part cs (holds f)) flat (field_part [] f (rest ++ post)), subst (λ cs. AllByRecursion (λ g. Part cs (holds g)) fs) flat (more_parts fs (spelling f) post))
 
-pub all_parts : (fs : List Form) (after bs : List ℕ) → Begins fs after bs → All (λ f. Part bs (holds f)) fs
+pub all_parts : (fs : List Form) (after bs : List ℕ) → Begins fs after bs → AllByRecursion (λ f. Part bs (holds f)) fs
 all_parts fs after bs h =
-    ⊎_elim (λ e. subst (λ cs. All (λ f. Part cs (holds f)) fs) (sym e) (row_parts fs (CR ∷ LF ∷ after)))
-    (λ p. subst (λ cs. All (λ f. Part cs (holds f)) fs) (append-nil (spelled_record fs) ∙ sym p.0) (row_parts fs [])) h.spelt
+    ⊎_elim (λ e. subst (λ cs. AllByRecursion (λ f. Part cs (holds f)) fs) (sym e) (row_parts fs (CR ∷ LF ∷ after)))
+    (λ p. subst (λ cs. AllByRecursion (λ f. Part cs (holds f)) fs) (append-nil (spelled_record fs) ∙ sym p.0) (row_parts fs [])) h.spelt

@@ -1,13 +1,12 @@
 -- Where a text is cut: at a LF, inside the outer quotes, and past what ends a field.
-use Rattle.std.proofs.Common.{◌≡◌, ℕ, ◌+◌, ◌-◌, ◌<◌, ◌≤◌, Bool, true, eqb, ltb, List, [], ◌∷◌, ◌++◌, length, get_or, take, drop, Decides, sym, refl, ap, ◌∙◌, subst, append_assoc, arith, length-append, ltb-true, eq-eqb, true-eqb}
-use Rattle.std.specs.List.{AllByRecursion as All}
+use Rattle.std.proofs.Common.{◌≡◌, ℕ, ◌+◌, ◌-◌, ◌<◌, ◌≤◌, Bool, true, eqb, List, [], ◌∷◌, ◌++◌, length, get_or, take, drop, Decides, sym, refl, ap, ◌∙◌, subst, arith, length-append, eq-eqb, true-eqb}
 use Rattle.std.proofs.lemmas.List.{drop_more, drop_all, take_at, take_rest, take_more, take_all, take-append-drop, drop_at}
 use Rattle.text.specs.declared.machine.State.{State}
-use Rattle.text.specs.declared.machine.State.TheVariants.{Start, Bare, Quoted, AfterQuote}
+use Rattle.text.specs.declared.machine.State.TheVariants.{Quoted, AfterQuote}
 use Rattle.text.specs.declared.machine.Ending.{Ending}
 use Rattle.text.specs.declared.machine.Ending.TheVariants.{Comma, Line, Text}
 use Rattle.text.specs.Fronts.{Ended}
-use Rattle.text.specs.Grammar.{COMMA, CR, LF, DQUOTE, TEXTDATA, Inside}
+use Rattle.text.specs.Grammar.{COMMA, CR, LF, DQUOTE, Inside}
 use Rattle.text.specs.declared.machine.Effect.TheVariants.{On, Off, Refused}
 use Rattle.text.specs.Machine.{SoFar, Complete, Does}
 use Rattle.text.specs.Offences.{Offence, unclosed}

@@ -1,7 +1,7 @@
 -- The fields of a record that are gathered so far, each with its comma.
-use Rattle.std.proofs.Common.{◌≡◌, ℕ, ◌+◌, ◌<◌, ◌≤◌, ◌⊎◌, List, [], ◌∷◌, ◌++◌, map, length, set, sym, refl, ap, ◌∙◌, subst, inl, inr, ⊎_elim, append_assoc, append-nil, arith, length-append}
+use Rattle.std.proofs.Common.{◌≡◌, ℕ, ◌+◌, ◌<◌, ◌≤◌, ◌⊎◌, List, [], ◌∷◌, ◌++◌, length, set, sym, refl, ap, ◌∙◌, subst, inl, inr, ⊎_elim, append_assoc, append-nil, arith, length-append}
 use lib.ListN.{length-map}
-use Rattle.std.specs.List.{flat_map, AllByRecursion as All}
+use Rattle.std.specs.List.{flat_map, AllByRecursion}
 use Rattle.std.proofs.ByRecursion.{All-push}
 use Rattle.std.proofs.lemmas.List.{flat_map_more, map_push, length_push, take_all}
 use Rattle.faults.specs.declared.Refusal.{Refusal}
@@ -9,14 +9,14 @@ use Rattle.text.specs.declared.field.Placed.{Placed}
 use Rattle.text.specs.declared.machine.Ending.{Ending}
 use Rattle.text.specs.declared.machine.Ending.TheVariants.{Comma, Line, Text}
 use Rattle.text.specs.Fronts.{form, forms, Numbered, laid, Ended, Leads}
-use Rattle.text.specs.Grammar.{COMMA, CR, LF, Form, IsField, spelling, IsRecord, spelled_record}
+use Rattle.text.specs.Grammar.{COMMA, CR, LF, Form, IsField, spelling, spelled_record}
 use Rattle.text.specs.Offences.{Offence}
 use Rattle.text.specs.Records.{Begins, Breaks}
 use Rattle.text.proofs.Rows.{after_comma, before_comma}
 
 -- record n: the fields ps, k of them, stand at the front of bs, and `rest` is left
 pub record Sofar (n k : ℕ) (ps : List Placed) (rest bs : List ℕ) : Type 0 where
-  pub are_fields : All IsField (forms ps)
+  pub are_fields : AllByRecursion IsField (forms ps)
   pub numbered : Numbered n 1 ps
   pub count : k ≡ length ps
   pub room : k + length rest ≤ length bs
@@ -51,8 +51,8 @@ module _ (n k : ℕ) (ps : List Placed) (rest bs : List ℕ) (so : Sofar n k ps 
   breaks_here e wrong = record { before = forms ps; are_fields = so.are_fields; counted = omega (arith, so.count, length-map ps (λ q. form q.content)); wrong = rest; spelt = so.spelt; offence = wrong }
 
   module _ (p : Placed) (e : Ending) (after : List ℕ) (is : p.«record» ≡ n) (at : p.field ≡ k + 1) (leads : Leads (form p.content) e after rest) where
-    all_fields : All IsField (forms (ps ++ p ∷ []))
-    all_fields = subst (All IsField) (sym (map_push (λ q. form q.content) ps p)) (All-push IsField (forms ps) (form p.content) so.are_fields leads.is_field)
+    all_fields : AllByRecursion IsField (forms (ps ++ p ∷ []))
+    all_fields = subst (AllByRecursion IsField) (sym (map_push (λ q. form q.content) ps p)) (All-push IsField (forms ps) (form p.content) so.are_fields leads.is_field)
 
     pub all_numbered : Numbered n 1 (ps ++ p ∷ [])
     all_numbered = numbered_push n 1 ps p so.numbered is (omega (arith, so.count))

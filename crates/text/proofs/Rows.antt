@@ -1,10 +1,10 @@
 -- Records: the first one of a text is determined, and so is the first offence.
-use Rattle.std.proofs.Common.{◌≡◌, ℕ, ◌+◌, ◌<◌, ◌≤◌, ◌⊎◌, List, [], ◌∷◌, ◌++◌, length, sym, refl, ap, ◌∙◌, subst, inl, inr, ⊎_elim, append_assoc, append-nil, arith, length-append}
-use Rattle.std.specs.List.{flat_map, AllByRecursion as All}
+use Rattle.std.proofs.Common.{◌≡◌, ℕ, ◌⊎◌, List, [], ◌∷◌, ◌++◌, length, sym, refl, ap, ◌∙◌, subst, inl, inr, ⊎_elim, append_assoc, append-nil, arith, length-append}
+use Rattle.std.specs.List.{flat_map, AllByRecursion}
 use Rattle.faults.specs.declared.Refusal.{Refusal}
-use Rattle.text.specs.Grammar.{COMMA, CR, LF, Form, IsField, spelling, IsRecord, spelled_record, spelled, last_of, IsText}
+use Rattle.text.specs.Grammar.{COMMA, CR, LF, Form, IsField, spelling, IsRecord, spelled_record}
 use Rattle.text.specs.Offences.{Follows, the_end, a_comma, a_line_end, Offence, unclosed, run_on, stray, Stray, quote, lf, cr}
-use Rattle.text.specs.Records.{Begins, Breaks, First, Broken}
+use Rattle.text.specs.Records.{Begins, Breaks}
 use Rattle.text.proofs.Unique.{head_is, tail_is, no_cons, field_once, field_stands, offence_once}
 
 -- a field after its comma, and before it
@@ -35,7 +35,7 @@ one_field f g fs gs t u a b m n e =
     field_once f g _ _ a b (follows_in fs t m) (follows_in gs u n)
     (sym (append_assoc (spelling f) (flat_map after_comma fs) t) ∙ e ∙ append_assoc (spelling g) (flat_map after_comma gs) u)
 
-more_once : (fs gs : List Form) (t u : List ℕ) → All IsField fs → All IsField gs → Ends t → Ends u → flat_map after_comma fs ++ t ≡ flat_map after_comma gs ++ u → (fs ≡ gs) × (t ≡ u)
+more_once : (fs gs : List Form) (t u : List ℕ) → AllByRecursion IsField fs → AllByRecursion IsField gs → Ends t → Ends u → flat_map after_comma fs ++ t ≡ flat_map after_comma gs ++ u → (fs ≡ gs) × (t ≡ u)
 more_once [] [] t u a b m n e = (refl, e)
 more_once [] (g ∷ gs) t u a b m n e = absurd (no_comma m e)
 more_once (f ∷ fs) [] t u a b m n e = absurd (no_comma n (sym e))
@@ -81,7 +81,7 @@ begins_once fs gs after beyond bs h k =
 pub flat_lead : (f : Form) (fs : List Form) (w : List ℕ) → flat_map before_comma (f ∷ fs) ++ w ≡ spelling f ++ COMMA ∷ (flat_map before_comma fs ++ w)
 flat_lead f fs w = append_assoc (before_comma f) (flat_map before_comma fs) w ∙ append_assoc (spelling f) (COMMA ∷ []) (flat_map before_comma fs ++ w)
 
-lead_once : (fs gs : List Form) (w v : List ℕ) (e d : Refusal) → All IsField fs → All IsField gs → flat_map before_comma fs ++ w ≡ flat_map before_comma gs ++ v → Offence e w → Offence d v → (e ≡ d) × (length fs ≡ length gs)
+lead_once : (fs gs : List Form) (w v : List ℕ) (e d : Refusal) → AllByRecursion IsField fs → AllByRecursion IsField gs → flat_map before_comma fs ++ w ≡ flat_map before_comma gs ++ v → Offence e w → Offence d v → (e ≡ d) × (length fs ≡ length gs)
 lead_once [] [] w v e d a b is m n = (offence_once v e d (subst (Offence e) is m) n, refl)
 lead_once [] (g ∷ gs) w v e d a b is m n = absurd (field_stands g _ w e b.0 a_comma (is ∙ flat_lead g gs v) m)
 lead_once (f ∷ fs) [] w v e d a b is m n = absurd (field_stands f _ v d a.0 a_comma (sym is ∙ flat_lead f fs w) n)
@@ -96,7 +96,7 @@ breaks_once e d k j bs x y =
     (same.0, omega (arith, same.1, x.counted, y.counted))
 
 -- where a record stands, nothing offends
-row_stands : (gs : List Form) (f : Form) (fs : List Form) (t w : List ℕ) (e : Refusal) → All IsField (f ∷ fs) → Ends t → All IsField gs → spelled_record (f ∷ fs) ++ t ≡ flat_map before_comma gs ++ w → Offence e w → ⊥
+row_stands : (gs : List Form) (f : Form) (fs : List Form) (t w : List ℕ) (e : Refusal) → AllByRecursion IsField (f ∷ fs) → Ends t → AllByRecursion IsField gs → spelled_record (f ∷ fs) ++ t ≡ flat_map before_comma gs ++ w → Offence e w → ⊥
 row_stands [] f fs t w e a n b is m = field_stands f _ w e a.0 (follows_in fs t n) (sym is ∙ append_assoc (spelling f) (flat_map after_comma fs) t) m
 row_stands (g ∷ gs) f [] t w e a n b is m =
     no_comma n (field_once f g _ _ a.0 b.0 (follows_in [] t n) a_comma (sym (append_assoc (spelling f) [] t) ∙ is ∙ flat_lead g gs w)).1

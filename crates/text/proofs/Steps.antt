@@ -1,12 +1,12 @@
 -- What each step of the machine does to the bytes read so far.
-use Rattle.std.proofs.Common.{◌≡◌, ℕ, ◌+◌, ◌<◌, Bool, true, false, ◌⊎◌, List, [], ◌∷◌, ◌++◌, length, sym, refl, ap, ◌∙◌, subst, inl, inr, ⊎_elim, append_assoc, arith, length-append}
-use Rattle.std.specs.List.{AllByRecursion as All}
+use Rattle.std.proofs.Common.{◌≡◌, ℕ, ◌<◌, Bool, true, false, List, [], ◌∷◌, ◌++◌, length, sym, refl, ap, ◌∙◌, subst, append_assoc, arith, length-append}
+use Rattle.std.specs.List.{AllByRecursion}
 use Rattle.std.proofs.ByRecursion.{All-push}
 use Rattle.faults.specs.declared.Refusal.TheVariants.{BrokenQuotes, StrayByte}
 use Rattle.text.specs.declared.machine.State.{State}
 use Rattle.text.specs.declared.machine.State.TheVariants.{Start, Bare, Quoted, AfterQuote}
 use Rattle.text.specs.Grammar.{COMMA, CR, LF, DQUOTE, TEXTDATA, Inside, nothing, other, doubled}
-use Rattle.text.specs.Offences.{Follows, the_end, a_comma, a_line_end, Unquoted, Stray, quote, lf, cr, Offence, unclosed, run_on, stray}
+use Rattle.text.specs.Offences.{Follows, a_comma, a_line_end, Unquoted, Stray, quote, lf, cr, Offence, run_on, stray}
 use Rattle.text.specs.Machine.{SoFar}
 
 inside_other : {qs : List ℕ} (b : ℕ) → (b ≡ DQUOTE → ⊥) → Inside qs → Inside (qs ++ b ∷ [])
@@ -37,8 +37,8 @@ reopened s b e f bs h =
     (shut.0 ++ DQUOTE ∷ DQUOTE ∷ [], same ∙ ap (λ cs. DQUOTE ∷ cs) (append_assoc shut.0 (DQUOTE ∷ []) (DQUOTE ∷ [])), inside_doubled shut.2)
 
 -- no quote so far: all is TEXTDATA
-plain : (s : State) → (s ≡ Quoted → ⊥) → (s ≡ AfterQuote → ⊥) → (bs : List ℕ) → SoFar s bs → All TEXTDATA bs
-plain Start n m bs h = subst (All TEXTDATA) (sym h) tt
+plain : (s : State) → (s ≡ Quoted → ⊥) → (s ≡ AfterQuote → ⊥) → (bs : List ℕ) → SoFar s bs → AllByRecursion TEXTDATA bs
+plain Start n m bs h = subst (AllByRecursion TEXTDATA) (sym h) tt
 plain Bare n m bs h = h.1
 plain Quoted n m bs h = absurd (n refl)
 plain AfterQuote n m bs h = absurd (m refl)
@@ -48,7 +48,7 @@ pub bared : (s : State) (b : ℕ) → (s ≡ Quoted → ⊥) → (s ≡ AfterQuo
 bared s b n m d bs h = (simp length-append (omega arith), All-push TEXTDATA bs b (plain s n m bs h) d)
 
 -- bytes that are not empty and all TEXTDATA begin with no quote, whatever follows
-unquoted_plain : (bs more : List ℕ) → 0 < length bs → All TEXTDATA bs → Unquoted (bs ++ more)
+unquoted_plain : (bs more : List ℕ) → 0 < length bs → AllByRecursion TEXTDATA bs → Unquoted (bs ++ more)
 unquoted_plain [] more some all = absurd (omega arith)
 unquoted_plain (b ∷ bs) more some all = all.0.no_quote
 

@@ -1,9 +1,8 @@
 -- A field at the front of bytes is the only one there, and then nothing offends there.
 use Rattle.std.proofs.Common.{◌≡◌, ℕ, List, [], ◌∷◌, ◌++◌, sym, refl, ap, ◌∙◌, subst, append_assoc, arith}
-use Rattle.std.specs.List.{AllByRecursion as All}
+use Rattle.std.specs.List.{AllByRecursion}
 use Rattle.faults.specs.declared.Refusal.{Refusal}
-use Rattle.faults.specs.declared.Refusal.TheVariants.{BrokenQuotes, StrayByte}
-use Rattle.text.specs.Grammar.{COMMA, CR, LF, DQUOTE, TEXTDATA, Inside, nothing, other, doubled, Form, non_escaped, escaped, IsField, spelling}
+use Rattle.text.specs.Grammar.{DQUOTE, TEXTDATA, Inside, nothing, other, doubled, Form, non_escaped, escaped, IsField, spelling}
 use Rattle.text.specs.Offences.{Follows, the_end, a_comma, a_line_end, Unquoted, Stray, quote, lf, cr, Offence, unclosed, run_on, stray}
 
 pub head_is : {a b : ℕ} {xs ys : List ℕ} → a ∷ xs ≡ b ∷ ys → a ≡ b
@@ -72,14 +71,14 @@ stray_follows (cr lone) a_comma e = let h = head_is e in omega arith
 stray_follows (cr lone) (a_line_end {bs}) e = lone bs (tail_is e)
 
 -- TEXTDATA reaches up to one place
-pub halts_once : (f g t u : List ℕ) → All TEXTDATA f → All TEXTDATA g → Halts t → Halts u → f ++ t ≡ g ++ u → (f ≡ g) × (t ≡ u)
+pub halts_once : (f g t u : List ℕ) → AllByRecursion TEXTDATA f → AllByRecursion TEXTDATA g → Halts t → Halts u → f ++ t ≡ g ++ u → (f ≡ g) × (t ≡ u)
 halts_once [] [] t u a b h k e = (refl, e)
 halts_once [] (y ∷ g) t u a b h k e = absurd (subst Halts e h b.0)
 halts_once (x ∷ f) [] t u a b h k e = absurd (subst Halts (sym e) k a.0)
 halts_once (x ∷ f) (y ∷ g) t u a b h k e = let rest = halts_once f g t u a.1 b.1 h k (tail_is e) in ((λ z. head_is e z ∷ rest.0 z), rest.1)
 
 -- a bare field, or nothing, and what may follow begin with no quote
-unquoted_bare : (f t : List ℕ) → All TEXTDATA f → Follows t → Unquoted (f ++ t)
+unquoted_bare : (f t : List ℕ) → AllByRecursion TEXTDATA f → Follows t → Unquoted (f ++ t)
 unquoted_bare [] t a h = unquoted_follows h
 unquoted_bare (b ∷ f) t a h = a.0.no_quote
 

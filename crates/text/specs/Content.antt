@@ -1,5 +1,5 @@
 -- What a field says: its content.
-use Rattle.std.specs.Prelude.{◌≡◌, ℕ, cond, ◌&&◌, List, [], ◌∷◌, ◌++◌, length, take, drop, ◌==◌}
+use Rattle.std.specs.Prelude.{◌≡◌, ℕ, cond, ◌&&◌, List, [], ◌∷◌, length, take, drop, ◌==◌}
 use Rattle.text.specs.declared.field.Field.{Field}
 use Rattle.text.specs.Fronts.{form}
 use Rattle.text.specs.Grammar.{DQUOTE, Form, non_escaped, escaped}

@@ -1,6 +1,6 @@
 -- The grammar of record text, rule by rule as RFC 4180 has it. Text is a list of bytes.
 use Rattle.std.specs.Prelude.{◌≡◌, ℕ, ◌<◌, ◌⊎◌, List, [], ◌∷◌, ◌++◌, length, ◌≢◌}
-use Rattle.std.specs.List.{flat_map, AllByRecursion as All}
+use Rattle.std.specs.List.{flat_map, AllByRecursion}
 
 -- the bytes that separate
 abbrev pub COMMA : ℕ
@@ -35,7 +35,7 @@ pub data Form : Type 0 where
 
 -- field = (escaped / non_escaped), escaped = DQUOTE *(TEXTDATA / COMMA / CR / LF / 2DQUOTE) DQUOTE, non_escaped = *TEXTDATA
 abbrev pub IsField : Form → Type 0
-IsField (non_escaped bs) = All TEXTDATA bs
+IsField (non_escaped bs) = AllByRecursion TEXTDATA bs
 IsField (escaped bs) = Inside bs
 
 -- how a field stands in the text
@@ -45,7 +45,7 @@ spelling (escaped bs) = DQUOTE ∷ bs ++ DQUOTE ∷ []
 
 -- record = field *(COMMA field)
 abbrev pub IsRecord : List Form → Type 0
-IsRecord fs = (0 < length fs) × All IsField fs
+IsRecord fs = (0 < length fs) × AllByRecursion IsField fs
 
 -- how a record stands in the text
 abbrev pub spelled_record : List Form → List ℕ
@@ -66,7 +66,7 @@ last_of r (s ∷ rs) = last_of s rs
 abbrev pub IsText : List (List Form) → List ℕ → Type 0
 IsText [] bs = bs ≡ []
 IsText (r ∷ rs) bs =
-    All IsRecord (r ∷ rs) × ((bs ≡ spelled (r ∷ rs) ++ CR ∷ LF ∷ []) ⊎ ((bs ≡ spelled (r ∷ rs)) × (0 < length (spelled_record (last_of r rs)))))
+    AllByRecursion IsRecord (r ∷ rs) × ((bs ≡ spelled (r ∷ rs) ++ CR ∷ LF ∷ []) ⊎ ((bs ≡ spelled (r ∷ rs)) × (0 < length (spelled_record (last_of r rs)))))
 
 -- bs has one reading at most
 abbrev pub OneReading : List ℕ → Type 0

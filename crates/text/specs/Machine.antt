@@ -1,9 +1,8 @@
 -- What the machine's state says of the bytes of a field that it has read, and what a step does to it.
 use Rattle.std.specs.Prelude.{◌≡◌, ℕ, ◌<◌, Bool, true, List, [], ◌∷◌, ◌++◌, length}
-use Rattle.std.specs.List.{AllByRecursion as All}
+use Rattle.std.specs.List.{AllByRecursion}
 use Rattle.text.specs.declared.machine.State.{State}
 use Rattle.text.specs.declared.machine.State.TheVariants.{Start, Bare, Quoted, AfterQuote}
-use Rattle.text.specs.declared.machine.Ending.{Ending}
 use Rattle.text.specs.declared.machine.Ending.TheVariants.{Comma, Line, Text}
 use Rattle.text.specs.declared.machine.Effect.{Effect}
 use Rattle.text.specs.declared.machine.Effect.TheVariants.{On, Off, Refused}
@@ -13,7 +12,7 @@ use Rattle.text.specs.Offences.{Offence}
 -- nothing yet; a bare field; an open quoted field; a quoted field that may be complete
 abbrev pub SoFar : State → List ℕ → Type 0
 SoFar Start bs = bs ≡ []
-SoFar Bare bs = (0 < length bs) × All TEXTDATA bs
+SoFar Bare bs = (0 < length bs) × AllByRecursion TEXTDATA bs
 SoFar Quoted bs = (qs : List ℕ) × (bs ≡ DQUOTE ∷ qs) × Inside qs
 SoFar AfterQuote bs = (qs : List ℕ) × (bs ≡ DQUOTE ∷ qs ++ DQUOTE ∷ []) × Inside qs
 

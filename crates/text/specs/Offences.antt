@@ -1,6 +1,6 @@
 -- What is wrong where a field should stand.
 use Rattle.std.specs.Prelude.{◌≡◌, ℕ, List, [], ◌∷◌, ◌++◌, ◌≢◌}
-use Rattle.std.specs.List.{AllByRecursion as All}
+use Rattle.std.specs.List.{AllByRecursion}
 use Rattle.faults.specs.declared.Refusal.{Refusal}
 use Rattle.faults.specs.declared.Refusal.TheVariants.{BrokenQuotes, StrayByte}
 use Rattle.text.specs.Grammar.{COMMA, CR, LF, DQUOTE, TEXTDATA, Inside}
@@ -29,4 +29,4 @@ pub data Offence : Refusal → List ℕ → Type 0 where
   -- after the quote that closes it stands what may not follow
   run_on : {bs : List ℕ} (qs after : List ℕ) → bs ≡ DQUOTE ∷ qs ++ DQUOTE ∷ after → Inside qs → Unquoted after → (Follows after → ⊥) → Offence BrokenQuotes bs
   -- a bare field holds what it may not
-  stray : {bs : List ℕ} (front after : List ℕ) → bs ≡ front ++ after → All TEXTDATA front → Stray after → Unquoted bs → Offence StrayByte bs
+  stray : {bs : List ℕ} (front after : List ℕ) → bs ≡ front ++ after → AllByRecursion TEXTDATA front → Stray after → Unquoted bs → Offence StrayByte bs

@@ -1,6 +1,6 @@
 -- What a reader holds, and what it answers.
 use Rattle.std.specs.Prelude.{◌≡◌, ℕ, ◌+◌, ◌<◌, ◌≤◌, List, [], length, Some, None, Ok, Err, Option, Result}
-use Rattle.std.specs.List.{AllByRecursion as All}
+use Rattle.std.specs.List.{AllByRecursion}
 use Rattle.faults.specs.declared.Fault.{Fault}
 use Rattle.faults.specs.declared.Refusal.TheVariants.{TextTooLong}
 use Rattle.faults.specs.Faults.{direct}
@@ -28,8 +28,8 @@ pub record Hands (r s : Reader) (old new : List Placed) (answer : Record) : Type
   pub ps : List Placed
   pub first : First (forms ps) (left s) (left r)
   pub numbered : Numbered (handed r + 1) 1 ps
-  pub parts : All (λ f. Part (left r) (holds f)) (forms ps)
-  pub doubled : All Doubled (forms ps)
+  pub parts : AllByRecursion (λ f. Part (left r) (holds f)) (forms ps)
+  pub doubled : AllByRecursion Doubled (forms ps)
   pub number_is : answer.number ≡ handed r + 1
   pub count_is : answer.count ≡ length ps
   pub written : new ≡ laid ps old

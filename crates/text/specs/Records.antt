@@ -1,6 +1,6 @@
 -- The record at the front of what is left of a text, or the first offence in it.
 use Rattle.std.specs.Prelude.{◌≡◌, ℕ, ◌+◌, ◌<◌, ◌⊎◌, List, [], ◌∷◌, ◌++◌, length}
-use Rattle.std.specs.List.{flat_map, AllByRecursion as All}
+use Rattle.std.specs.List.{flat_map, AllByRecursion}
 use Rattle.faults.specs.declared.Refusal.{Refusal}
 use Rattle.text.specs.Grammar.{COMMA, CR, LF, Form, IsField, spelling, IsRecord, spelled_record, IsText, OneReading}
 use Rattle.text.specs.Offences.{Offence}
@@ -14,7 +14,7 @@ pub record Begins (fs : List Form) (after bs : List ℕ) : Type 0 where
 -- the record that bs begins with breaks at its k-th field: the fields before it stand, each with its comma
 pub record Breaks (e : Refusal) (k : ℕ) (bs : List ℕ) : Type 0 where
   pub before : List Form
-  pub are_fields : All IsField before
+  pub are_fields : AllByRecursion IsField before
   pub counted : k ≡ length before + 1
   pub wrong : List ℕ
   pub spelt : bs ≡ flat_map (λ f. spelling f ++ COMMA ∷ []) before ++ wrong

@@ -8,12 +8,12 @@ digit-requires c =
     let n = c.args.number in
     let i = c.loop-place.place in
     let rest = c.loop-place.rest in
-    let value = c.place-value-value.ensures in
-    let at : rest / c.place-value-value.result ≡ n / 10 ^ (10 - i) % 10 = ap (λ v. rest / v) value ∙ digit_at n i rest (omega arith) c.loop-place.invariant.3 in
+    let value = c.place_value-value.ensures in
+    let at : rest / c.place_value-value.result ≡ n / 10 ^ (10 - i) % 10 = ap (λ v. rest / v) value ∙ digit_at n i rest (omega arith) c.loop-place.invariant.3 in
     record { some = omega (arith, value, power_some (10 - i)); one = omega (arith, at, mod-lt (n / 10 ^ (10 - i)) {m = 10} (omega arith)) }
 
-pub nonzero-rem-rest : goal.nonzero-rem-rest
-nonzero-rem-rest c = omega (arith, c.place-value-value.ensures, power_some (10 - c.loop-place.place))
+pub nonzero_rem-rest : goal.nonzero_rem-rest
+nonzero_rem-rest c = omega (arith, c.place_value-value.ensures, power_some (10 - c.loop-place.place))
 
 pub loop-place-preserved : goal.loop-place-preserved
 loop-place-preserved c =
@@ -21,10 +21,10 @@ loop-place-preserved c =
     let i = c.loop-place.place in
     let rest = c.loop-place.rest in
     let ds = c.loop-place.digits in
-    let value = c.place-value-value.ensures in
+    let value = c.place_value-value.ensures in
     elim c.if-value-rest.branch [
-      | then-value-rest w ↦ rw (w.digits-is, w.rest_is) (written_digit n i rest _ _ ds (omega arith) c.loop-place.invariant value w.digit.ensures)
-      | else-value-rest w ↦ rw (w.digits-is, w.rest_is) (written_zero n i rest ds (omega arith) c.loop-place.invariant (omega (arith, value, w.if-value-rest.false)))
+      | then-value-rest w ↦ rw (w.digits-is, w.rest-is) (written_digit n i rest _ _ ds (omega arith) c.loop-place.invariant value w.digit.ensures)
+      | else-value-rest w ↦ rw (w.digits-is, w.rest-is) (written_zero n i rest ds (omega arith) c.loop-place.invariant (omega (arith, value, w.if-value-rest.false)))
     ]
 
 pub returns : goal.returns

@@ -4,18 +4,18 @@ use Rattle.text.specs.Fronts.{form}
 use Rattle.text.specs.Grammar.{DQUOTE, escaped}
 use Rattle.fields.proofs.Said.{holds_one, says_one, one_byte}
 use Rattle.fields.proofs.letters.said_letter.Goals as goal
-use Rattle.fields.proofs.letters.said_letter.Goals.{in-default-via-in-Quoted+else-is-doubled-quote, in-default-via-in-Bare·}
+use Rattle.fields.proofs.letters.said_letter.Goals.{in_default-via-in-Quoted+else-is_doubled_quote, in_default-via-in_default}
 
-pub returns-in-default : goal.returns-in-default
-returns-in-default c =
+pub returns-in_default : goal.returns-in_default
+returns-in_default c =
     holds_one (form c.args.content) c.from.result
     (sym c.bytes-bytes.ensures ∙ one_byte c.bytes-bytes.result.now (omega arith) ∙ ap (λ b. b ∷ []) (sym c.from.ensures))
 
-pub returns-in-default-2 : goal.returns-in-default-2
-returns-in-default-2 c h =
+pub returns-in_default-2 : goal.returns-in_default-2
+returns-in_default-2 c h =
     ⊎_elim (λ p. let one = ap length c.bytes-bytes.ensures ∙ p in omega arith)
     (λ (p : form c.args.content ≡ escaped (DQUOTE ∷ DQUOTE ∷ [])).
-    elim c.in-default.branch [
-      | in-default-via-in-Quoted+else-is-doubled-quote w ↦ let t = w.is-doubled-quote.ensures.1 (c.bytes-bytes.ensures ∙ ap holds p) in grind arith
-      | in-default-via-in-Bare· w ↦ grind arith
+    elim c.in_default.branch [
+      | in_default-via-in-Quoted+else-is_doubled_quote w ↦ let t = w.is_doubled_quote.ensures.1 (c.bytes-bytes.ensures ∙ ap holds p) in grind arith
+      | in_default-via-in_default w ↦ grind arith
     ]) (says_one (form c.args.content) h)

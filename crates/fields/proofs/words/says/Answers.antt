@@ -1,4 +1,4 @@
-use Rattle.std.proofs.Common.{◌≡◌, Decides, sym, ap, subst}
+use Rattle.std.proofs.Common.{◌≡◌, Decides, sym, subst}
 use Rattle.std.proofs.lemmas.Slice.Eq.{slice_eq-Decides}
 use Rattle.text.specs.Content.{content_of}
 use Rattle.fields.proofs.words.says.Goals as goal

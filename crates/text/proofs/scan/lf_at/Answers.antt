@@ -1,4 +1,4 @@
-use Rattle.std.proofs.Common.{length, ltb-true}
+use Rattle.std.proofs.Common.{ltb-true}
 use Rattle.text.proofs.Cuts.{lf_here, lf_past}
 use Rattle.text.proofs.scan.lf_at.Goals as goal
 

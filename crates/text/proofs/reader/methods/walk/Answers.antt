@@ -1,5 +1,4 @@
 use Rattle.std.proofs.Common.{◌+◌, [], refl, arith}
-use Rattle.text.specs.declared.field.Field.{Field}
 use Rattle.text.specs.declared.field.Placed.{Placed}
 use Rattle.text.proofs.Gathered.{none_yet, breaks_here, shorter, one_more, last_one, all_numbered, all_counted, laid_none, laid_on}
 use Rattle.text.proofs.reader.methods.walk.Goals as goal

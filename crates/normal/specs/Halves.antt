@@ -1,14 +1,12 @@
 -- Floor and ceiling above the reading: ordered, rising, narrow, and settled from four standard uncertainties on.
-use Rattle.std.proofs.Common.{◌≡◌, ℕ, ◌+◌, ◌-◌, ◌*◌, ◌<◌, ◌≤◌, min, max, cond, ltb, ◌⊎◌, ℤ, pos, nat_abs, ◌<ℤ◌, sym, inl, inr, ⊎_elim, mul-le-mul_right, arith}
+use Rattle.std.proofs.Common.{◌≡◌, ℕ, ◌+◌, ◌-◌, ◌*◌, ◌<◌, ◌≤◌, min, max, ltb, ◌⊎◌, inl, inr, ⊎_elim, arith}
 use Rattle.std.proofs.lemmas.Nat.{le-div}
 use Rattle.std.proofs.lemmas.Bool.{cases_lt, cond-true, cond-false, lt-ltb, le-ltb}
 use Rattle.knowledge.specs.Millionths.{million, rounded_down, rounded_up}
-use Rattle.knowledge.specs.Offsets.{nearest}
 use Rattle.knowledge.proofs.Rounding.{down_rises, up_above, up_near, up_rises, up_least}
-use Rattle.normal.specs.declared.Normal.{Normal}
-use Rattle.normal.specs.Normal.{tenths, height, floor_above, ceiling_above, normal}
-use Rattle.normal.proofs.Heights.{not_low as low, not_high as high, rises}
-use Rattle.normal.proofs.Mirror.{Upper, answered_above, answered_below}
+use Rattle.normal.specs.Normal.{tenths, height, floor_above, ceiling_above}
+use Rattle.normal.specs.Heights.{not_low as low, not_high as high, rises}
+use Rattle.normal.specs.Mirror.{Upper}
 
 -- within four standard uncertainties
 pub record Near (s n : ℕ) : Type 0 where
@@ -44,18 +42,6 @@ far s n ge =
 
 ways : (s n : ℕ) → 0 < s → Near s n ⊎ Far s n
 ways s n some = ⊎_elim (λ lt. inl (near s n some lt)) (λ ge. inr (far s n ge)) (cases_lt (tenths s n) 40)
-
--- the program's quotients lie between the table's ends
-pub record Between (h s : ℕ) : Type 0 where
-  pub not_low : 500000 ≤ rounded_down h s
-  pub not_high : rounded_up h s ≤ 999970
-  pub in_order : rounded_down h s ≤ rounded_up h s
-
-pub between : {h d : ℕ} (k : Normal) (n : ℕ) → d ≡ k.standard_uncertainty → (tenths k.standard_uncertainty n < 40) × (h ≡ height k.standard_uncertainty n) → Between h d
-between k n same found =
-    let s = k.standard_uncertainty in
-    let ends = near s n k.some found.0 in
-    simp (same, found.1) (record { not_low = ends.not_low; not_high = ends.not_high; in_order = up_above (height s n) s })
 
 -- the farthest offset lies beyond four standard uncertainties
 farthest : (s n : ℕ) → 0 < s → s ≤ 100000 → 2000000 ≤ n → Far s n
@@ -102,18 +88,3 @@ ceiling_upper s some le =
       climbs = ceiling_climbs s some;
       settles = λ m n far-off far-off'. omega (arith, farthest s m some le far-off, farthest s n some le far-off');
     }
-
--- the normal kind's answers at an offset, from the distance of its nearest one
-pub above_reading : (k : Normal) (x : ℤ) → pos 0 <ℤ nearest x → (floor_above k.standard_uncertainty (nat_abs (nearest x)) ≡ (normal k.standard_uncertainty).floor x) × (ceiling_above k.standard_uncertainty (nat_abs (nearest x)) ≡ (normal k.standard_uncertainty).ceiling x)
-above_reading k x positive =
-    let s = k.standard_uncertainty in
-    let lower = floor_upper s k.some k.bounded in
-    let upper = ceiling_upper s k.some k.bounded in
-    (sym (answered_above (floor_above s) (ceiling_above s) lower upper x positive), sym (answered_above (ceiling_above s) (floor_above s) upper lower x positive))
-
-pub below_reading : (k : Normal) (x : ℤ) → nearest x <ℤ pos 0 → (million - ceiling_above k.standard_uncertainty (nat_abs (nearest x)) ≡ (normal k.standard_uncertainty).floor x) × (million - floor_above k.standard_uncertainty (nat_abs (nearest x)) ≡ (normal k.standard_uncertainty).ceiling x)
-below_reading k x negative =
-    let s = k.standard_uncertainty in
-    let lower = floor_upper s k.some k.bounded in
-    let upper = ceiling_upper s k.some k.bounded in
-    (sym (answered_below (floor_above s) (ceiling_above s) lower upper x negative), sym (answered_below (ceiling_above s) (floor_above s) upper lower x negative))

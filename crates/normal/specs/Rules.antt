@@ -2,8 +2,8 @@
 use Rattle.std.proofs.Common.{ℕ, ◌≤◌, arith}
 use Rattle.knowledge.specs.Knowledge.{Rules}
 use Rattle.normal.specs.Normal.{floor_above, ceiling_above, normal}
-use Rattle.normal.proofs.Halves.{ordered, narrow, floor_upper, ceiling_upper}
-use Rattle.normal.proofs.Mirror.{mirrored_rules}
+use Rattle.normal.specs.Halves.{ordered, narrow, floor_upper, ceiling_upper}
+use Rattle.normal.specs.Mirror.{mirrored_rules}
 
 pub normal_rules : (s : ℕ) → 1 ≤ s → s ≤ 100000 → Rules (normal s)
 normal_rules s some bounded =

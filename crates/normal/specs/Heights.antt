@@ -4,7 +4,7 @@ use Rattle.std.proofs.lemmas.Nat.{le-div, mod_below}
 use Rattle.std.proofs.lemmas.Bool.{cases_lt}
 use Rattle.normal.specs.Table.{value, gap, ChordOver}
 use Rattle.normal.specs.Normal.{tenths, left_over, height}
-use Rattle.normal.proofs.Values.{next, climbs}
+use Rattle.normal.specs.Values.{next, climbs}
 
 -- the chord over the tenth k at r of its s parts
 abbrev chord : ℕ → ℕ → ℕ → ℕ
