@@ -1,7 +1,7 @@
 -- Why the risk sums over passes hold for every choice of admitted distributions: note by note, over the product of the parts.
 use Rattle.std.proofs.Common.{◌≡◌, ℕ, ◌+◌, ◌-◌, ◌*◌, ◌≤◌, List, [], ◌∷◌, refl, ap, mul-le-mul_right, mul_assoc, mul_comm, add-mul, mul-add, arith}
 use native.Mathlib.Nat.{mul-sub}
-use Rattle.std.specs.List.{AllByRecursion as All}
+use Rattle.std.specs.List.{AllByRecursion}
 use Rattle.knowledge.specs.Millionths.{million}
 use Rattle.judging.specs.Guarantee.{conforming, BracketHolds}
 use Rattle.judging.proofs.Order.{judged_bracket}
@@ -33,7 +33,7 @@ module _ (s t a p r q m : ℕ) where
 holds : (n : Note) → Judgeable n → BracketHolds n.knowledge n.requirement.tolerance n.fields.reading (judgement n).bracket
 holds n h = judged_bracket n.knowledge n.rules n.requirement n.fields.expanded n.fields.reading h
 
-over_lesser : (ns : List Note) → All Judgeable ns → (c : Choice ns) → least_risks ns * all_parts ns c ≤ million * all_risk ns c
+over_lesser : (ns : List Note) → AllByRecursion Judgeable ns → (c : Choice ns) → least_risks ns * all_parts ns c ≤ million * all_risk ns c
 over_lesser [] h c = omega arith
 over_lesser (n ∷ ns) h c =
     let d = c.0.0 in
@@ -41,7 +41,7 @@ over_lesser (n ∷ ns) h c =
     (left_over million (conforming d n.requirement.tolerance n.fields.reading) (judgement n).bracket.ceiling d.parts ((holds n h.0).under_ceiling d c.0.1))
     (over_lesser ns h.1 c.1)
 
-under_greater : (ns : List Note) → All Judgeable ns → (c : Choice ns) → million * all_risk ns c ≤ greatest_risks ns * all_parts ns c
+under_greater : (ns : List Note) → AllByRecursion Judgeable ns → (c : Choice ns) → million * all_risk ns c ≤ greatest_risks ns * all_parts ns c
 under_greater [] h c = omega arith
 under_greater (n ∷ ns) h c =
     let d = c.0.0 in
@@ -49,10 +49,10 @@ under_greater (n ∷ ns) h c =
     (left_under million (conforming d n.requirement.tolerance n.fields.reading) (judgement n).bracket.floor d.parts ((holds n h.0).over_floor d c.0.1))
     (under_greater ns h.1 c.1)
 
-narrow : (ns : List Note) → All Judgeable ns → greatest_risks ns ≤ least_risks ns + 2 * widths ns
+narrow : (ns : List Note) → AllByRecursion Judgeable ns → greatest_risks ns ≤ least_risks ns + 2 * widths ns
 narrow [] h = omega arith
 narrow (n ∷ ns) h = omega (arith, (holds n h.0).narrow, narrow ns h.1)
 
-pub sums_hold : (ns : List Note) → All Judgeable ns → SumsHold ns (least_risks ns) (greatest_risks ns)
+pub sums_hold : (ns : List Note) → AllByRecursion Judgeable ns → SumsHold ns (least_risks ns) (greatest_risks ns)
 sums_hold ns h =
     record { lesser_is = refl; greater_is = refl; over_lesser = over_lesser ns h; under_greater = under_greater ns h; narrow = narrow ns h }

@@ -1,6 +1,6 @@
 -- From one call to the law over runs: a lot that keeps its book keeps it through each call, and guarantees it.
 use Rattle.std.proofs.Common.{◌≡◌, ℕ, zero, suc, ◌≤◌, true, false, List, [], ◌∷◌, map, length, ℤ, nat_abs, Some, None, Ok, Err, Option, Result, sym, refl, ap, ◌∙◌, subst, arith}
-use Rattle.std.specs.List.{slice_get, insert, remove, AllByRecursion as All}
+use Rattle.std.specs.List.{slice_get, insert, remove, AllByRecursion}
 use Rattle.std.specs.Option.{option_map}
 use Rattle.std.proofs.lemmas.List.{length-map}
 use Rattle.faults.specs.Faults.{AnswersBy}
@@ -30,7 +30,7 @@ use Rattle.lot_calls.specs.Guarantee.{Keeps, NoteHolds, Guaranteed, StandsAfter,
 use Rattle.lot_calls.specs.declared.lots.Lot.{Lot}
 
 -- a note that can be judged holds
-each_holds : (ns : List Note) → All Judgeable ns → All NoteHolds ns
+each_holds : (ns : List Note) → AllByRecursion Judgeable ns → AllByRecursion NoteHolds ns
 each_holds [] h = tt
 each_holds (n ∷ ns) h = (judged_holds n.knowledge n.rules n.requirement n.fields.expanded n.fields.reading h.0, each_holds ns h.1)
 

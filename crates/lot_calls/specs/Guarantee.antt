@@ -1,6 +1,6 @@
 -- What a lot guarantees after any list of calls since its making.
 use Rattle.std.specs.Prelude.{◌≡◌, ℕ, List, ◌∷◌, map, length, ℤ, Some, Result, unsigned_abs}
-use Rattle.std.specs.List.{slice_get, AllByRecursion as All}
+use Rattle.std.specs.List.{slice_get, AllByRecursion}
 use Rattle.std.specs.Option.{option_map}
 use Rattle.faults.specs.declared.Fault.{Fault}
 use Rattle.faults.specs.Faults.{AnswersBy}
@@ -31,7 +31,7 @@ NoteHolds n = JudgementHolds n.knowledge n.requirement n.fields.reading (stored 
 -- the guarantee of a lot on the notes of its book: each one's stored judgement holds; and in every class the two sums of the row
 -- are those over the passes standing, and hold for every choice of an admitted distribution for each of these
 pub record Guaranteed (l : Lot) (notes : List Note) : Type 0 where
-  pub each_holds : All NoteHolds notes
+  pub each_holds : AllByRecursion NoteHolds notes
   pub sums_hold : (c : ℕ) → SumsHold (passing c notes) (class_row l c).lesser (class_row l c).greater
 
 -- a lot after these calls, the latest first: it keeps the book that they make, and guarantees it

@@ -1,6 +1,6 @@
 -- The tests of contents agree with what the fields' values ensure.
 use Rattle.std.proofs.Common.{◌≡◌, ℕ, ◌≤◌, Bool, true, false, ◌&&◌, leb, List, [], ◌∷◌, length, ℤ, Some, None, Ok, Err, Decides, Option, Result, sym, refl, ap, inl, inr, arith}
-use Rattle.std.specs.List.{AllByRecursion as All}
+use Rattle.std.specs.List.{AllByRecursion}
 use Rattle.std.proofs.lemmas.Bool.{false≢true, and_parts, and_from, leb-true, le-leb}
 use Rattle.faults.specs.declared.Refusal.{Refusal}
 use Rattle.faults.specs.declared.Refusal.TheVariants.{NotANumber}
@@ -13,14 +13,14 @@ use Rattle.records.specs.Tests.{all_digits, is_numeral, is_number, limit_of}
 use Rattle.records.specs.Columns.{a_limit}
 use Rattle.records.specs.Cells.{cell, fault_in, outcome}
 
-digits_tell : (ds : List ℕ) → all_digits ds ≡ true → All Digit ds
+digits_tell : (ds : List ℕ) → all_digits ds ≡ true → AllByRecursion Digit ds
 digits_tell [] h = tt
 digits_tell (d ∷ ds) h =
     let both = and_parts (leb 48 d && leb d 57) (all_digits ds) h in
     let edges = and_parts (leb 48 d) (leb d 57) both.0 in
     (record { not_below = leb-true 48 d edges.0; not_above = leb-true d 57 edges.1 }, digits_tell ds both.1)
 
-digits_told : (ds : List ℕ) → All Digit ds → all_digits ds ≡ true
+digits_told : (ds : List ℕ) → AllByRecursion Digit ds → all_digits ds ≡ true
 digits_told [] h = refl
 digits_told (d ∷ ds) h =
     and_from (leb 48 d && leb d 57) (all_digits ds) (and_from (leb 48 d) (leb d 57) (le-leb 48 d h.0.not_below) (le-leb d 57 h.0.not_above))
