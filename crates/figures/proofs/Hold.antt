@@ -5,7 +5,7 @@ use Rattle.knowledge.specs.Knowledge.{Rules}
 use Rattle.rectangular.specs.Rectangular.{rectangular}
 use Rattle.rectangular.specs.Rules.{rectangular_rules}
 use Rattle.normal.specs.Normal.{normal}
-use Rattle.normal.proofs.Rules.{normal_rules}
+use Rattle.normal.specs.Rules.{normal_rules}
 use Rattle.requirement.specs.declared.rules.Rule.TheVariants.{Multiple, Shares}
 use Rattle.requirement.specs.declared.rules.Mode.TheVariants.{Two, Four}
 use Rattle.acceptance.specs.Acceptance.{share_limit, both_limits, by_rule}

@@ -5,5 +5,5 @@ use Rattle.figures.proofs.reading.judged_grade.Goals as goal
 pub returns : goal.returns
 returns c =
     let f = c.ranges.reading in
-    at_half_width c.in-ok-requirement.requirement c.in-ok-requirement.ensures c.args.reading
-    c.in-ok-knowledge.knowledge.half_width c.in-ok-knowledge.ensures c.judge.result (simp to_z-of_z at c.judge.ensures)
+    at_half_width c.in_ok-requirement.requirement c.in_ok-requirement.ensures c.args.reading
+    c.in_ok-knowledge.knowledge.half_width c.in_ok-knowledge.ensures c.judge.result (simp to_z-of_z at c.judge.ensures)
