@@ -4,3 +4,4 @@ pub mod Runs
 pub mod ClassSums
 pub mod Shares
 pub mod Counts
+pub mod Refusals

@@ -1,11 +1,11 @@
 -- What each check of a lot's calls says.
-use Rattle.std.proofs.Common.{◌≡◌, ℕ, ◌+◌, ◌-◌, ◌<◌, ◌≤◌, Bool, true, false, not, ltb, leb, List, [], ◌∷◌, map, length, get_or, ℤ, pos, nat_abs, Some, None, Ok, Err, Option, Result, sym, refl, ap, ◌∙◌, subst, ⊎_elim, arith, w64, SFits}
+use Rattle.std.proofs.Common.{◌≡◌, ℕ, ◌+◌, ◌-◌, ◌<◌, ◌≤◌, Bool, true, not, ltb, List, [], ◌∷◌, map, length, get_or, ℤ, pos, nat_abs, Some, None, Ok, Err, Option, Result, sym, ap, ◌∙◌, subst, ⊎_elim, arith, w64, SFits}
 use Rattle.std.specs.List.{slice_get}
 use Rattle.std.proofs.lemmas.List.{length-map}
 use Rattle.std.proofs.lemmas.Option.{slice_get-get_or}
 use Rattle.std.proofs.lemmas.Int.{ints}
 use Rattle.std.proofs.lemmas.Bool.{cases_lt, lt-ltb, le-ltb, and_parts}
-use Rattle.faults.specs.Faults.{direct, check, AnswersBy}
+use Rattle.faults.specs.Faults.{direct, AnswersBy}
 use Rattle.faults.specs.declared.Refusal.TheVariants.{NoPlace, OutOfRange, DuplicateItem, LotFull}
 use Rattle.faults.proofs.Checks.{passed, failed, check_passed}
 use Rattle.requirement.proofs.Reach.{range_out, reach_out}

@@ -1,5 +1,5 @@
 -- From one call to the law over runs: a lot that keeps its book keeps it through each call, and guarantees it.
-use Rattle.std.proofs.Common.{◌≡◌, ℕ, zero, suc, ◌≤◌, true, false, List, [], ◌∷◌, map, length, ℤ, nat_abs, Some, None, Ok, Err, Option, Result, sym, refl, ap, ◌∙◌, subst, arith}
+use Rattle.std.proofs.Common.{◌≡◌, ℕ, zero, suc, ◌≤◌, List, [], ◌∷◌, map, length, ℤ, nat_abs, Some, None, Ok, Err, Option, Result, sym, refl, ap, ◌∙◌, subst, arith}
 use Rattle.std.specs.List.{slice_get, insert, remove, AllByRecursion}
 use Rattle.std.specs.Option.{option_map}
 use Rattle.std.proofs.lemmas.List.{length-map}
@@ -9,7 +9,6 @@ use Rattle.faults.specs.declared.Refusal.{Refusal}
 use Rattle.faults.proofs.Checks.{no_refusal, its_value}
 use Rattle.knowledge.specs.Knowledge.{Answers, Rules}
 use Rattle.requirement.specs.declared.requirements.Requirement.{Requirement}
-use Rattle.judging.specs.Verdicts.{judged}
 use Rattle.judging.specs.declared.answers.Judgement.{Judgement}
 use Rattle.judging.proofs.Order.{judged_holds}
 use Rattle.table.specs.Tables.{standing, capacity}
@@ -17,7 +16,7 @@ use Rattle.table.proofs.Standing.{nth_at}
 use Rattle.lot.specs.Notes.{Note, Judgeable, stored, item_of, passing}
 use Rattle.lot.specs.Risks.{SumsHold}
 use Rattle.lot.specs.Rows.{row_of}
-use Rattle.lot.specs.Book.{number_of, noted, struck, Call, enters, strikes, shows, tallies, requirement_for, enter_refusal, strike_refusal, show_refusal, tally_refusal, note_if, strike_if, after, book}
+use Rattle.lot.specs.Book.{number_of, struck, Call, enters, strikes, shows, tallies, requirement_for, enter_refusal, strike_refusal, show_refusal, tally_refusal, note_if, strike_if, book}
 use Rattle.lot.specs.declared.items.Item.{Item}
 use Rattle.lot.specs.declared.items.ItemFields.{ItemFields}
 use Rattle.lot.specs.declared.items.Row.{Row}
@@ -26,7 +25,7 @@ use Rattle.lot.proofs.Noted.{Rising, noted_at, struck_at, numbers_stored}
 use Rattle.lot.proofs.Runs.{judgeable, all_passing}
 use Rattle.lot.proofs.SumsHold.{sums_hold}
 use Rattle.lot_calls.specs.Lots.{items, numbers, room, class_row, Unchanged, JudgedBy, Entered, Struck}
-use Rattle.lot_calls.specs.Guarantee.{Keeps, NoteHolds, Guaranteed, StandsAfter, EntersOn, StrikesOn, ShowsOn, TalliesOn}
+use Rattle.lot_calls.specs.Guarantee.{Keeps, NoteHolds, StandsAfter, EntersOn, StrikesOn, ShowsOn, TalliesOn}
 use Rattle.lot_calls.specs.declared.lots.Lot.{Lot}
 
 -- a note that can be judged holds

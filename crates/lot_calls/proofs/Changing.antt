@@ -1,10 +1,8 @@
 -- A lot when an item is put in or taken out: what the table's answer says, and that rows keep to the items.
-use Rattle.std.proofs.Common.{◌≡◌, ℕ, ◌+◌, ◌-◌, ◌*◌, ◌<◌, ◌≤◌, Bool, true, false, not, T, ltb, List, ◌∷◌, map, length, get_or, drop, set, pos, Some, None, Ok, Err, Option, Result, sym, refl, ap, ◌∙◌, subst, mul-le-mul_right, arith}
+use Rattle.std.proofs.Common.{◌≡◌, ℕ, ◌-◌, ◌≤◌, Bool, true, false, not, T, List, map, length, get_or, drop, set, pos, Some, None, Ok, Err, Result, sym, ◌∙◌, subst, mul-le-mul_right, arith}
 use Rattle.std.specs.List.{slice_get, insert, remove}
 use Rattle.std.proofs.lemmas.List.{length-map}
 use Rattle.std.proofs.lemmas.Bool.{true≢false, not-true, ltb-true}
-use Rattle.faults.specs.Faults.{check}
-use Rattle.faults.specs.declared.Refusal.{Refusal}
 use Rattle.faults.specs.declared.Refusal.TheVariants.{DuplicateItem, LotFull}
 use Rattle.faults.proofs.Checks.{check_passed}
 use Rattle.knowledge.specs.Millionths.{million}
@@ -17,17 +15,13 @@ use Rattle.table.specs.declared.Refused.TheVariants.{Present, Full}
 use Rattle.table.specs.Tables.{standing, beyond, capacity}
 use Rattle.table.specs.Changes.{Allowed, Insertion}
 use Rattle.lot.specs.Book.{room_refusal, stands}
-use Rattle.lot.specs.Rows.{on_pass, on_conditional_pass, on_conditional_fail, on_fail, share_of, plus, minus, row_of, of_a_class, Classed}
+use Rattle.lot.specs.Rows.{on_pass, on_conditional_pass, on_conditional_fail, on_fail, share_of, plus, minus, row_of, of_a_class}
 use Rattle.lot.specs.declared.items.Item.{Item}
 use Rattle.lot.specs.declared.items.Row.{Row}
 use Rattle.lot.proofs.Noted.{stands_has}
+use Rattle.lot.proofs.Refusals.{check_later}
 use Rattle.lot.proofs.Shares.{NineTallied, summed_at_most, row_at, row_holds, tallied_inserted, tallied_removed}
 use Rattle.lot_calls.specs.Sizes.{RowOfAtMost, Contains}
-
--- what is checked later is passed as well
-check_later : (b : Bool) (e : Refusal) (later : Option Refusal) → check b e later ≡ None → later ≡ None
-check_later true e later h = h
-check_later false e later h = absurd (true≢false (sym (check_passed false e later h)))
 
 abbrev its_number : Item → ℕ
 its_number e = e.number

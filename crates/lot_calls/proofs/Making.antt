@@ -1,11 +1,10 @@
 -- A lot that begins empty.
-use Rattle.std.proofs.Common.{◌≡◌, ℕ, ◌≤◌, min, Bool, true, false, cond, leb, List, [], ◌∷◌, replicate, sym, refl, ◌∙◌, subst, arith}
+use Rattle.std.proofs.Common.{◌≡◌, ℕ, ◌≤◌, Bool, true, false, cond, leb, List, [], replicate, sym, refl, subst, arith}
 use Rattle.std.proofs.lemmas.List.{get_or-replicate}
 use Rattle.std.proofs.lemmas.Bool.{leb-true}
 use Rattle.sheet.specs.Lists.{places_of}
 use Rattle.lot.specs.Rows.{row_of}
 use Rattle.lot.specs.declared.items.Item.{Item}
-use Rattle.lot.specs.declared.items.Row.{Row}
 use Rattle.lot.proofs.Shares.{NineTallied}
 
 -- nine empty rows are those of no item

@@ -1,12 +1,12 @@
 -- What each way out of striking and entering leaves.
-use Rattle.std.proofs.Common.{◌≡◌, ℕ, ◌≤◌, Bool, true, false, leb, List, map, ℤ, nat_abs, None, Ok, Err, Option, sym, refl, ap, ◌∙◌}
+use Rattle.std.proofs.Common.{◌≡◌, Bool, true, leb, List, ℤ, nat_abs, None, Ok, Err, Option, Result, sym, refl, ap, ◌∙◌, subst}
 use Rattle.std.proofs.lemmas.List.{get_or_default}
 use Rattle.std.proofs.lemmas.Bool.{le-leb, and_from}
 use Rattle.faults.specs.Faults.{direct, check, first_of, AnswersBy}
 use Rattle.faults.specs.declared.Fault.{Fault}
 use Rattle.faults.specs.declared.Refusal.{Refusal}
-use Rattle.faults.specs.declared.Refusal.TheVariants.{OutOfRange, NoItem}
-use Rattle.faults.proofs.Checks.{passed, failed, check_passed, no_refusal, its_value, refuses_first, passes_first}
+use Rattle.faults.specs.declared.Refusal.TheVariants.{NoItem}
+use Rattle.faults.proofs.Checks.{passed, failed, no_refusal, refuses_first, passes_first}
 use Rattle.knowledge.specs.Knowledge.{Answers}
 use Rattle.requirement.specs.declared.requirements.Requirement.{Requirement}
 use Rattle.judging.specs.declared.answers.Judgement.{Judgement}
@@ -14,10 +14,11 @@ use Rattle.table.specs.Places.{Stands}
 use Rattle.table.proofs.Standing.{nth_at, stands_at}
 use Rattle.lot.specs.Notes.{item_of}
 use Rattle.lot.specs.Rows.{of_a_class}
-use Rattle.lot.specs.Book.{stands, in_range, number_refusal, fields_refusal, room_refusal, judged_refusal, requirement_for}
+use Rattle.lot.specs.Book.{stands, in_range, strike_refusal, number_refusal, fields_refusal, room_refusal, judged_refusal, requirement_for}
 use Rattle.lot.specs.declared.items.Item.{Item}
 use Rattle.lot.specs.declared.items.ItemFields.{ItemFields}
 use Rattle.lot.proofs.Noted.{stands_has, absent_stands}
+use Rattle.lot.proofs.Refusals.{struck_in_turn, in_range_fields}
 use Rattle.lot_calls.specs.Lots.{items, numbers, room, Unchanged, StandsEntered, TakenOut, JudgedBy, Entered, Struck}
 use Rattle.lot_calls.specs.declared.lots.Lot.{Lot}
 use Rattle.lot_calls.proofs.Answering.{fitting}
@@ -29,15 +30,20 @@ module _ (l : Lot) (n : ℤ) where
   abbrev stood : Bool
   stood = stands (numbers l) (nat_abs n)
 
+  -- the number's refusal comes before the refusal of what does not stand
+  in_turn : (r : Result (Unit {0}) Fault) → AnswersBy (first_of (number_refusal n) (check stood NoItem None)) r Nothing → AnswersBy (strike_refusal (numbers l) n) r Nothing
+  in_turn r a = subst (λ (o : Option Refusal). AnswersBy o r Nothing) (sym (struck_in_turn (numbers l) n)) a
+
   pub not_a_number : (e : Fault) → AnswersBy (number_refusal n) (Err e) Nothing → Struck l n (Err e) l
-  not_a_number e a = record { answer = refuses_first Nothing Nothing (number_refusal n) (check stood NoItem None) e a; change = (refl, refl); same_room = refl }
+  not_a_number e a = record { answer = in_turn (Err e) (refuses_first Nothing Nothing (number_refusal n) (check stood NoItem None) e a); change = (refl, refl); same_room = refl }
 
   module _ (l' : Lot) (number : AnswersBy (number_refusal n) (Ok tt) Nothing) (keeps : room l' ≡ room l) where
     pub none_out : (Stands (λ e. e.number) (items l) (nat_abs n) → ⊥) → Unchanged l l' → Struck l n (Err (direct NoItem)) l'
     none_out absent same =
         record {
-          answer = passes_first Nothing (number_refusal n) (check stood NoItem None) (Err (direct NoItem)) (no_refusal Nothing (number_refusal n) tt number)
-              (failed Nothing stood NoItem None (absent_stands (numbers l) (nat_abs n) absent));
+          answer = in_turn (Err (direct NoItem))
+              (passes_first Nothing (number_refusal n) (check stood NoItem None) (Err (direct NoItem)) (no_refusal Nothing (number_refusal n) tt number)
+              (failed Nothing stood NoItem None (absent_stands (numbers l) (nat_abs n) absent)));
           change = same;
           same_room = keeps;
         }
@@ -48,8 +54,9 @@ module _ (l : Lot) (n : ℤ) where
         let has = stands_at (λ (e : Item). e.number) (nat_abs n) (items l) out.place at.0
         (λ d. ap (λ (x : Item). x.number) (get_or_default (items l) out.place d e at.0 ∙ at.1) ∙ out.number_is) in
         record {
-          answer = passes_first Nothing (number_refusal n) (check stood NoItem None) (Ok tt) (no_refusal Nothing (number_refusal n) tt number)
-              (passed Nothing stood NoItem None (Ok tt) (stands_has (numbers l) (nat_abs n) has) tt);
+          answer = in_turn (Ok tt)
+              (passes_first Nothing (number_refusal n) (check stood NoItem None) (Ok tt) (no_refusal Nothing (number_refusal n) tt number)
+              (passed Nothing stood NoItem None (Ok tt) (stands_has (numbers l) (nat_abs n) has) tt));
           change = (e, out);
           same_room = keeps;
         }
@@ -103,4 +110,4 @@ item_classed f j h =
 
 -- fields that pass their check are in range
 pub passed_fields : (f : ItemFields) → AnswersBy (fields_refusal f) (Ok tt) Nothing → in_range f ≡ true
-passed_fields f a = check_passed (in_range f) OutOfRange None (no_refusal Nothing (fields_refusal f) tt a)
+passed_fields f a = in_range_fields f (no_refusal Nothing (fields_refusal f) tt a)

@@ -1,9 +1,8 @@
 -- The rows of a lot, row by row and as a whole.
-use Rattle.std.proofs.Common.{◌≡◌, ℕ, zero, suc, ◌+◌, ◌<◌, List, [], ◌∷◌, map, length, get_or, sym, refl, ap, ◌∙◌, subst, arith}
+use Rattle.std.proofs.Common.{◌≡◌, ℕ, zero, suc, ◌+◌, ◌<◌, List, [], ◌∷◌, get_or, sym, refl, ap, ◌∙◌, subst, arith}
 use Rattle.std.proofs.lemmas.List.{same_lists, get_or-map}
 use Rattle.lot.specs.Rows.{row_of}
 use Rattle.lot.specs.declared.items.Item.{Item}
-use Rattle.lot.specs.declared.items.Row.{Row}
 use Rattle.lot.proofs.Shares.{NineTallied}
 use Rattle.lot_calls.specs.Sizes.{rows_of}
 use Rattle.lot_calls.specs.declared.rows.Rows.{Rows}

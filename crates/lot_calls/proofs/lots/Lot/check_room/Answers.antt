@@ -12,9 +12,9 @@ returns-in-Ok c =
 pub returns-in-Err : goal.returns-in-Err
 returns-in-Err c =
     let l = c.args.self.now in
-    rw c.direct-in-Err.ensures (full (items l) (room l) c.args.number (c.in-Err.ensures.known l.ordered) (leb-true (room l) (length (items l)) (sym c.if-is-full.ensures)))
+    rw c.direct-in-Err.ensures (full (items l) (room l) c.args.number (c.in-Err.ensures.known l.ordered) (leb-true (room l) (length (items l)) (sym c.if-is_full.ensures)))
 
 pub returns-in-Err-2 : goal.returns-in-Err-2
 returns-in-Err-2 c =
     let l = c.args.self.now in
-    free (items l) (room l) c.args.number (c.in-Err-2.ensures.known l.ordered) (leb-false (room l) (length (items l)) (sym c.if-is-full.ensures))
+    free (items l) (room l) c.args.number (c.in-Err-2.ensures.known l.ordered) (leb-false (room l) (length (items l)) (sym c.if-is_full.ensures))

@@ -1,4 +1,4 @@
-use Rattle.std.proofs.Common.{Ok, Err, sym, refl, subst}
+use Rattle.std.proofs.Common.{Ok, refl}
 use Rattle.std.proofs.lemmas.Result.{err_from_is_err_and}
 use Rattle.std.proofs.lemmas.Int.{to_z-of_z}
 use Rattle.faults.proofs.Checks.{no_refusal}
@@ -10,52 +10,52 @@ use Rattle.lot_calls.proofs.Carrying.{entered_carries}
 use Rattle.lot_calls.proofs.Outcomes.{Nothing, out_of_range, no_room, not_judged, entered, item_classed, passed_fields}
 use Rattle.lot_calls.proofs.lots.Lot.enter.Goals as goal
 
-pub returns-in-err-check-fields : goal.returns-in-err-check-fields
-returns-in-err-check-fields g c =
+pub returns-in_err-check_fields : goal.returns-in_err-check_fields
+returns-in_err-check_fields g c =
     let l = c.args.self.now in
     let f = c.args.fields.now in
     let k = g.K.Knowledge.answers c.args.knowledge.now in
     let rules = g.met.K.Knowledge.rules c.args.knowledge.now in
     let sheet = standing c.args.sheet.now.table in
-    let p = err_from_is_err_and c.from-residual.result c.from-residual.ensures.1 in
-    let done = out_of_range l sheet f k _ c.in-err-check-fields.ensures in
+    let p = err_from_is_err_and c.from_residual.result c.from_residual.ensures.1 in
+    let done = out_of_range l sheet f k _ c.in_err-check_fields.ensures in
     rw (p.1, p.2) (record { same = refl; outcome = done; run = entered_carries f k rules l sheet _ l done })
 
-pub returns-in-err-check-room : goal.returns-in-err-check-room
-returns-in-err-check-room g c =
+pub returns-in_err-check_room : goal.returns-in_err-check_room
+returns-in_err-check_room g c =
     let l = c.args.self.now in
     let f = c.args.fields.now in
     let k = g.K.Knowledge.answers c.args.knowledge.now in
     let rules = g.met.K.Knowledge.rules c.args.knowledge.now in
     let sheet = standing c.args.sheet.now.table in
-    let fields = c.in-ok-check-fields.ensures in
+    let fields = c.in_ok-check_fields.ensures in
     let number = (fitting f (passed_fields f fields)).number_fits in
-    let p = err_from_is_err_and c.from-residual-in-err-check-room.result c.from-residual-in-err-check-room.ensures.1 in
-    let done = no_room l sheet f k fields _ (simp to_z-of_z at c.in-err-check-room.ensures) in
+    let p = err_from_is_err_and c.from_residual-in_err-check_room.result c.from_residual-in_err-check_room.ensures.1 in
+    let done = no_room l sheet f k fields _ (simp to_z-of_z at c.in_err-check_room.ensures) in
     rw (p.1, p.2) (record { same = refl; outcome = done; run = entered_carries f k rules l sheet _ l done })
 
-pub returns-in-err-judgement : goal.returns-in-err-judgement
-returns-in-err-judgement g c =
+pub returns-in_err-judgement : goal.returns-in_err-judgement
+returns-in_err-judgement g c =
     let l = c.args.self.now in
     let f = c.args.fields.now in
     let k = g.K.Knowledge.answers c.args.knowledge.now in
     let rules = g.met.K.Knowledge.rules c.args.knowledge.now in
     let sheet = standing c.args.sheet.now.table in
-    let fields = c.in-ok-check-fields.ensures in
+    let fields = c.in_ok-check_fields.ensures in
     let number = (fitting f (passed_fields f fields)).number_fits in
-    let p = err_from_is_err_and c.from-residual-in-err-judgement.result c.from-residual-in-err-judgement.ensures.1 in
-    let done = not_judged l sheet f k fields (simp to_z-of_z at c.in-ok-check-room.ensures) _ c.in-err-judgement.ensures in
+    let p = err_from_is_err_and c.from_residual-in_err-judgement.result c.from_residual-in_err-judgement.ensures.1 in
+    let done = not_judged l sheet f k fields (simp to_z-of_z at c.in_ok-check_room.ensures) _ c.in_err-judgement.ensures in
     rw (p.1, p.2) (record { same = refl; outcome = done; run = entered_carries f k rules l sheet _ l done })
 
-pub put-in-requires : goal.put-in-requires
-put-in-requires g c =
+pub put_in-requires : goal.put_in-requires
+put_in-requires g c =
     let l = c.args.self.now in
     let f = c.args.fields.now in
-    let fields = c.in-ok-check-fields.ensures in
+    let fields = c.in_ok-check_fields.ensures in
     let number = (fitting f (passed_fields f fields)).number_fits in
-    let free = simp to_z-of_z at c.in-ok-check-room.ensures in
-    rw c.item-of.ensures
-    (record { free = no_refusal Nothing (room_refusal (numbers l) (room l) f.number) tt free; classed = item_classed f c.in-ok-judgement.judgement (passed_fields f fields) })
+    let free = simp to_z-of_z at c.in_ok-check_room.ensures in
+    rw c.item_of.ensures
+    (record { free = no_refusal Nothing (room_refusal (numbers l) (room l) f.number) tt free; classed = item_classed f c.in_ok-judgement.judgement (passed_fields f fields) })
 
 pub returns : goal.returns
 returns g c =
@@ -64,10 +64,10 @@ returns g c =
     let k = g.K.Knowledge.answers c.args.knowledge.now in
     let rules = g.met.K.Knowledge.rules c.args.knowledge.now in
     let sheet = standing c.args.sheet.now.table in
-    let fields = c.in-ok-check-fields.ensures in
+    let fields = c.in_ok-check_fields.ensures in
     let number = (fitting f (passed_fields f fields)).number_fits in
-    let j = c.in-ok-judgement.judgement in
-    let l' = c.put-in.new.self in
-    let s = c.put-in.ensures in
-    let done = entered l sheet f k fields (simp to_z-of_z at c.in-ok-check-room.ensures) j l' c.in-ok-judgement.ensures (rw c.item-of.ensures at s.stands) s.keeps in
+    let j = c.in_ok-judgement.judgement in
+    let l' = c.put_in.new.self in
+    let s = c.put_in.ensures in
+    let done = entered l sheet f k fields (simp to_z-of_z at c.in_ok-check_room.ensures) j l' c.in_ok-judgement.ensures (rw c.item_of.ensures at s.stands) s.keeps in
     record { same = s.same; outcome = done; run = entered_carries f k rules l sheet (Ok j) l' done }

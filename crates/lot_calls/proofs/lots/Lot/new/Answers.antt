@@ -5,9 +5,14 @@ use Rattle.lot_calls.proofs.Tallies.{rows_by}
 use Rattle.lot_calls.proofs.Making.{tallied_none, places_few}
 use Rattle.lot_calls.proofs.lots.Lot.new.Goals as goal
 
-pub invariant-of-result : goal.invariant-of-result
-invariant-of-result c =
+pub invariant_of-result : goal.invariant_of-result
+invariant_of-result c =
     let e = c.new-table.ensures in
     let none = standing c.new-table.result in
     let tallied = tallied_none none e.empty.0 in
-    (e.ordered, (omega (arith, e.empty.1, c.usable-places-limit.ensures, places_few (length c.args.places.now)), (subst Classed (sym e.empty.0) tt, (rows_by none _ tallied, tt))))
+    record {
+      ordered = e.ordered;
+      few = omega (arith, e.empty.1, c.usable_places-limit.ensures, places_few (length c.args.places.now));
+      classed = subst Classed (sym e.empty.0) tt;
+      tallied = rows_by none _ tallied;
+    }

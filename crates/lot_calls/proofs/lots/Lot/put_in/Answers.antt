@@ -21,8 +21,8 @@ raise-requires c =
       one = subst (RowOfAtMost 1) (sym c.share_of.ensures) (share_few e.judgement);
     }
 
-pub invariant-of-self : goal.invariant-of-self
-invariant-of-self c =
+pub invariant_of-self : goal.invariant_of-self
+invariant_of-self c =
     let l = c.args.self.now in
     let e = c.args.item in
     let t' = c.insert.new.self in
@@ -34,7 +34,7 @@ invariant-of-self c =
     let put = tallied_put e l.rows.by_class class (items l) (standing t') stood.0 e.class share (plus (row_for l.rows e.class) share) (row_of 1 []) refl c.share_of.ensures refl stood.2
     (tallied_by (items l) l.rows l.tallied) in
     let tallied = rows_by (standing t') c.raise.new.self (subst (NineTallied (standing t')) (sym c.raise.ensures) put) in
-    (o.1, (omega (arith, s.room, l.few), (subst Classed (sym stood.2) (classed_inserted (items l) stood.0 e class l.classed), (tallied, tt))))
+    record { ordered = o.1; few = omega (arith, s.room, l.few); classed = subst Classed (sym stood.2) (classed_inserted (items l) stood.0 e class l.classed); tallied = tallied }
 
 pub returns : goal.returns
 returns c =

@@ -11,36 +11,36 @@ use Rattle.lot_calls.proofs.lots.Lot.take_out.Goals as goal
 pub lower-requires : goal.lower-requires
 lower-requires c =
     let l = c.args.self.now in
-    let e = c.in-ok-item.item in
-    let taken = c.in-ok-item.ensures.change in
+    let e = c.in_ok-item.item in
+    let taken = c.in_ok-item.ensures.change in
     let classed = classed_at (items l) taken.0 e taken.1.0 l.classed in
     let holds = contains_share e l.rows.by_class classed (items l) taken.0 (row_of 1 []) taken.1.0 (tallied_by (items l) l.rows l.tallied) in
     record { first = (class_from e classed).0; last = (class_from e classed).1; counted = subst (Contains (row_for l.rows e.class)) (sym c.share_of.ensures) holds }
 
-pub invariant-of-self-2 : goal.invariant-of-self-2
-invariant-of-self-2 c =
+pub invariant_of-self-2 : goal.invariant_of-self-2
+invariant_of-self-2 c =
     let l = c.args.self.now in
-    let e = c.in-ok-item.item in
+    let e = c.in_ok-item.item in
     let t' = c.remove.new.self in
-    let s = c.in-ok-item.ensures in
+    let s = c.in_ok-item.ensures in
     let taken = s.change in
     let classed = classed_at (items l) taken.0 e taken.1.0 l.classed in
     let share = c.share_of.result in
     let left = tallied_taken e l.rows.by_class classed (items l) (standing t') taken.0 e.class share (minus (row_for l.rows e.class) share) (row_of 1 []) refl c.share_of.ensures taken.1.0 refl taken.1.1
     (tallied_by (items l) l.rows l.tallied) in
     let tallied = rows_by (standing t') c.lower.new.self (subst (NineTallied (standing t')) (sym c.lower.ensures) left) in
-    ((s.outcome l.ordered).1, (omega (arith, s.room, l.few), (subst Classed (sym taken.1.1) (classed_removed (items l) taken.0 l.classed), (tallied, tt))))
+    record { ordered = (s.outcome l.ordered).1; few = omega (arith, s.room, l.few); classed = subst Classed (sym taken.1.1) (classed_removed (items l) taken.0 l.classed); tallied = tallied }
 
 -- without an item of the number nothing has changed
-pub invariant-of-self : goal.invariant-of-self
-invariant-of-self c =
+pub invariant_of-self : goal.invariant_of-self
+invariant_of-self c =
     let l = c.args.self.now in
-    let s = c.in-err-item.ensures in
+    let s = c.in_err-item.ensures in
     let same = s.change in
-    ((s.outcome l.ordered).1, (omega (arith, s.room, l.few), (subst Classed (sym (ap standing same)) l.classed, (l.tallied ∙ ap (λ t. rows_of (standing t)) (sym same), tt))))
+    record { ordered = (s.outcome l.ordered).1; few = omega (arith, s.room, l.few); classed = subst Classed (sym (ap standing same)) l.classed; tallied = l.tallied ∙ ap (λ t. rows_of (standing t)) (sym same) }
 
-pub returns-in-err-item : goal.returns-in-err-item
-returns-in-err-item c =
+pub returns-in_err-item : goal.returns-in_err-item
+returns-in_err-item c =
     let l = c.args.self.now in
-    let s = c.in-err-item.ensures in
-    rw c.from-residual.ensures (record { same = s.same; change = ((s.outcome l.ordered).0, (s.change, refl)); keeps = s.room })
+    let s = c.in_err-item.ensures in
+    rw c.from_residual.ensures (record { same = s.same; change = ((s.outcome l.ordered).0, (s.change, refl)); keeps = s.room })

@@ -1,5 +1,5 @@
-use Rattle.std.proofs.Common.{sym, arith}
-use Rattle.std.proofs.lemmas.Int.{ints, to_z-of_z}
+use Rattle.std.proofs.Common.{sym}
+use Rattle.std.proofs.lemmas.Int.{to_z-of_z}
 use Rattle.table.specs.Tables.{standing}
 use Rattle.lot.specs.Book.{requirement_for}
 use Rattle.lot_calls.proofs.Answering.{judged_found, fitting}
