@@ -9,12 +9,12 @@ loop-low-preserved c =
       omega arith,
       omega arith,
       c.loop-low.invariant.2,
-      λ j h. failed_before c.args.half-width j middle (omega arith) (sym c.if-reaches.ensures),
+      λ j h. failed_before c.args.half_width j middle (omega arith) (sym c.if-reaches.ensures),
     )
 
 pub returns : goal.returns
 returns c =
-    let s = c.args.half-width in
+    let s = c.args.half_width in
     let low = c.loop-low.low in
     let inv = c.loop-low.invariant in
     let met : low ≡ c.loop-low.high = omega arith in

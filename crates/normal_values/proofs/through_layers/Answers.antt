@@ -15,13 +15,13 @@ pub returns : goal.returns
 returns c low high =
     let layers = c.new-layers.result in
     let x = c.args.offset in
-    let y = to_z w64 (of_z w64 (to_z w64 (of_z w64 c.nearest-offset.result) -ℤ pos 100023)) in
+    let y = to_z w64 (of_z w64 (to_z w64 (of_z w64 c.nearest_offset.result) -ℤ pos 100023)) in
     let kind-is : layers.below.below.below ≡ c.args.kind = cc in
     let a-is : layers.below.below.bias ≡ pos 30 = cc in
     let b-is : layers.below.bias ≡ negsuc 6 = cc in
     let y-is : y ≡ (x -ℤ pos 100023) = omega (arith, ints, clamps) in
     let back = there_and_back x y layers.below.below.bias layers.below.bias layers.bias low high y-is a-is b-is c.new-layers.ensures.1 in
     let s = layers.below.below.below.standard_uncertainty in (
-      c.at-most.ensures.0 ∙ ap (normal s).floor back ∙ ap (λ (k : Normal). (normal k.standard_uncertainty).floor x) kind-is,
-      c.at-most.ensures.1 ∙ ap (normal s).ceiling back ∙ ap (λ (k : Normal). (normal k.standard_uncertainty).ceiling x) kind-is,
+      c.at_most.ensures.0 ∙ ap (normal s).floor back ∙ ap (λ (k : Normal). (normal k.standard_uncertainty).floor x) kind-is,
+      c.at_most.ensures.1 ∙ ap (normal s).ceiling back ∙ ap (λ (k : Normal). (normal k.standard_uncertainty).ceiling x) kind-is,
     )
