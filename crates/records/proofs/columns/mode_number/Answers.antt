@@ -1,4 +1,4 @@
-use Rattle.std.proofs.Common.{◌≡◌, true, false, is_some, Some, None, sym, refl, ap, w64, SFits, rules}
+use Rattle.std.proofs.Common.{◌≡◌, true, false, is_some, Some, None, sym, ap, w64, SFits, rules}
 use Rattle.std.proofs.lemmas.Result.{err_from_is_err_and}
 use Rattle.std.proofs.lemmas.Int.{to_z-of_z}
 use Rattle.faults.specs.declared.Refusal.TheVariants.{OutOfRange}

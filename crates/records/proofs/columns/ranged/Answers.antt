@@ -1,4 +1,4 @@
-use Rattle.std.proofs.Common.{◌≡◌, true, false, Some, sym, refl, ap, w64, SFits, rules}
+use Rattle.std.proofs.Common.{◌≡◌, true, false, Some, sym, ap, w64, SFits, rules}
 use Rattle.std.proofs.lemmas.Int.{to_z-of_z}
 use Rattle.faults.specs.declared.Refusal.TheVariants.{OutOfRange}
 use Rattle.faults.specs.Ranges.{from_to}

@@ -1,14 +1,14 @@
-use Rattle.std.proofs.Common.{◌≡◌, true, false, pos, Some, None, Ok, Err, sym, ap, ◌∙◌, subst, w64, SFits, rules}
+use Rattle.std.proofs.Common.{pos, Some, Ok, Err, ap, ◌∙◌, w64, SFits, rules}
 use Rattle.std.proofs.lemmas.Result.{err_from_is_err_and}
 use Rattle.std.proofs.lemmas.Int.{to_z-of_z}
 use Rattle.faults.specs.declared.Refusal.TheVariants.{OutOfRange}
-use Rattle.faults.specs.Faults.{check, AnswersBy}
+use Rattle.faults.specs.Faults.{AnswersBy}
 use Rattle.faults.specs.Ranges.{from_to, range_refusal}
 use Rattle.fields.specs.Answers.{said, fault_at}
 use Rattle.fields.specs.Values.{number_of}
-use Rattle.kinds.specs.Kinds.{known_kind, greatest_spread, spread_of, kind_refusal, HasGiven}
-use Rattle.records.specs.Columns.{a_number, spread_in}
-use Rattle.records.specs.Cells.{cell, column_answer}
+use Rattle.kinds.specs.Kinds.{known_kind, greatest_spread, kind_refusal, HasGiven}
+use Rattle.records.specs.Columns.{a_number}
+use Rattle.records.specs.Cells.{cell}
 use Rattle.records.proofs.Steps.{passes_test, fails_test, breaks_off}
 use Rattle.records.proofs.Spreads.{kind_made, kind_refused}
 use Rattle.records.proofs.makers.known_kind.Goals as goal
