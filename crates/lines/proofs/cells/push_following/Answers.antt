@@ -1,4 +1,4 @@
-use Rattle.std.proofs.Common.{◌++◌, map, vec_items, ap, ◌∙◌, arith}
+use Rattle.std.proofs.Common.{◌++◌, map, vec_items, ap, ◌∙◌}
 use Rattle.std.proofs.lemmas.List.{take_all}
 use Rattle.lines.specs.Lines.{written, following}
 use Rattle.lines.proofs.Parts.{field_more}
