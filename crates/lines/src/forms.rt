@@ -79,20 +79,25 @@ mod tests {
     use super::*;
     use faults::Refusal;
     use judging::Bracket;
-    use std::test::*;
+    use std::process::Abort;
+    use std::test::Fail;
 
     // The line stands after what was there, byte by byte.
-    fn check_line(rt: &HostRuntime, line: Line, due: &[u8]) -> Result<(), Fail> {
+    fn check_line(rt: &(impl Abort + AllocGlobal), line: Line, due: &[u8]) -> Result<(), Fail> {
         let mut out = Vec::new(rt.alloc());
         out.push(b'=')?;
         line.push(&mut out)?;
-        assert!(out.as_slice().starts_with(b"=") && out.as_slice().ends_with(due));
-        assert_eq!(out.len(), due.len().saturating_add(1));
+        assert!(rt; out.as_slice().starts_with(b"=") && out.as_slice().ends_with(due));
+        assert_eq!(rt; out.len(), due.len().saturating_add(1));
         Ok(())
     }
 
     // The line of item 7 under a verdict.
-    fn check_item(rt: &HostRuntime, verdict: Verdict, due: &[u8]) -> Result<(), Fail> {
+    fn check_item(
+        rt: &(impl Abort + AllocGlobal),
+        verdict: Verdict,
+        due: &[u8],
+    ) -> Result<(), Fail> {
         let bracket = Bracket {
             floor: 0,
             ceiling: 975_000,

@@ -1,5 +1,5 @@
 -- Rows whose parts are what the contents say.
-use Rattle.std.proofs.Common.{◌≡◌, ℕ, List, ℤ, Option}
+use Rattle.std.proofs.Common.{◌≡◌, ℕ, List}
 use Rattle.fields.specs.Values.{number_of}
 use Rattle.requirement.specs.declared.rows.RequirementRow.{RequirementRow}
 use Rattle.records.specs.Tests.{limit_of, letter_of}

@@ -1,12 +1,12 @@
 -- The answer of a record by its word.
-use Rattle.std.proofs.Common.{◌≡◌, ℕ, Bool, true, false, cond, List, ◌∷◌, Some, None, Option, Result, sym, refl, ap, ◌∙◌}
+use Rattle.std.proofs.Common.{◌≡◌, ℕ, Bool, true, false, cond, List, ◌∷◌, Some, None, Option, Result, refl, ap, ◌∙◌}
 use Rattle.std.proofs.lemmas.Bool.{true≢false, false≢true}
 use Rattle.faults.specs.declared.Fault.{Fault}
 use Rattle.requirement.specs.declared.rows.RequirementRow.{RequirementRow}
 use Rattle.records.specs.Tests.{letter_of}
 use Rattle.records.specs.Columns.{anything}
 use Rattle.records.specs.Cells.{Cell, contents, nth_content, left_to_right, outcome}
-use Rattle.records.specs.Entries.{is_requirement, is_item, requirement_columns, item_columns, requirement_of, ItemMeaning, item_of, Meaning, a_requirement, an_item, malformed, answer_of, answer_meant}
+use Rattle.records.specs.Entries.{is_requirement, is_item, requirement_columns, item_columns, requirement_of, ItemMeaning, item_of, a_requirement, an_item, malformed, answer_of, answer_meant}
 
 meant_outcome : {S T : Type 0} (f : S → T) (o : Option Fault) (v : S) → answer_meant f (outcome o v) ≡ outcome o (f v)
 meant_outcome f None v = refl

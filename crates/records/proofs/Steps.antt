@@ -1,9 +1,9 @@
 -- One column after another: what an answer says of the checks before it.
-use Rattle.std.proofs.Common.{◌≡◌, ℕ, Bool, true, false, Some, None, Ok, Err, Option, Result, sym, refl, ap, subst, arith}
+use Rattle.std.proofs.Common.{◌≡◌, ℕ, Bool, true, false, Some, None, Ok, Err, Option, Result, refl, ap, subst, arith}
 use Rattle.faults.specs.declared.Refusal.{Refusal}
 use Rattle.faults.specs.declared.Fault.{Fault}
 use Rattle.faults.specs.Faults.{check, first_of}
-use Rattle.records.specs.Cells.{Cell, fault_in, first_fault, outcome}
+use Rattle.records.specs.Cells.{Cell, fault_in, outcome}
 
 module _ {T : Type 0} where
   -- a value was answered, and is the one that is meant

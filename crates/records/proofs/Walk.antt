@@ -1,12 +1,12 @@
 -- The columns of a record from left to right.
-use Rattle.std.proofs.Common.{◌≡◌, ℕ, ◌+◌, ◌<◌, List, [], ◌∷◌, map, length, get_or, drop, Some, None, Ok, Err, Option, Result, sym, refl, ap, ◌∙◌, subst, arith}
+use Rattle.std.proofs.Common.{◌≡◌, ℕ, ◌+◌, ◌<◌, List, [], ◌∷◌, length, get_or, drop, Ok, Err, sym, refl, ap, ◌∙◌, arith}
 use lib.ListN.{length-map}
 use Rattle.std.proofs.lemmas.List.{drop_more, get_or-map}
 use Rattle.faults.specs.declared.Fault.{Fault}
 use Rattle.text.specs.declared.field.Field.TheVariants.{Bare}
 use Rattle.text.specs.declared.field.Placed.{Placed}
 use Rattle.records.specs.Columns.{Column, anything}
-use Rattle.records.specs.Cells.{Cell, cell, cells, contents, nth_content, first_fault, left_to_right, outcome, column_answer, fault_in}
+use Rattle.records.specs.Cells.{Cell, cell, cells, contents, first_fault, left_to_right, outcome, column_answer, fault_in}
 use Rattle.records.proofs.Steps.{its_value, no_fault, its_fault}
 
 -- what an access past the end of a list would read

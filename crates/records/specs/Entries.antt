@@ -1,5 +1,5 @@
 -- The records: their columns, what they are refused for, and what they mean.
-use Rattle.std.specs.Prelude.{ℕ, Bool, false, cond, ◌&&◌, List, [], ◌∷◌, length, ℤ, Some, None, Ok, Err, Option, Result, ◌==◌}
+use Rattle.std.specs.Prelude.{ℕ, Bool, false, cond, ◌&&◌, List, [], ◌∷◌, length, ℤ, Some, Ok, Err, Option, Result, ◌==◌}
 use Rattle.std.specs.Str.{bytes_eq}
 use Rattle.faults.specs.declared.Refusal.TheVariants.{MalformedRecord}
 use Rattle.faults.specs.declared.Fault.{Fault}

@@ -1,4 +1,4 @@
-use Rattle.std.proofs.Common.{◌++◌, map, vec_items, ap, ◌∙◌, arith}
+use Rattle.std.proofs.Common.{◌++◌, map, vec_items, ap, ◌∙◌}
 use Rattle.std.proofs.lemmas.List.{take_all}
 use Rattle.lines.specs.Lines.{written, following}
 use Rattle.lines.proofs.Parts.{field_more}
@@ -9,8 +9,8 @@ loop-cell-preserved c =
     field_more written c.args.cells.now c.loop-cell.cell-index _ (vec_items c.args.out.now) (vec_items c.loop-cell.out) _ _
     c.loop-cell-test.true
     c.loop-cell.invariant
-    c.in-ok-extend-from-slice.ensures.items
-    c.in-ok-push.ensures
+    c.in_ok-extend_from_slice.ensures.items
+    c.in_ok-push.ensures
 
 pub returns : goal.returns
 returns c =

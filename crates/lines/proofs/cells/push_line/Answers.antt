@@ -5,8 +5,8 @@ use Rattle.lines.proofs.cells.push_line.Goals as goal
 
 pub returns : goal.returns
 returns c =
-    line_ended c.extend-from-slice.result written c.args.cells.now _ (vec_items c.args.out.now) (vec_items c.push.new.out) (vec_items c.push-following.new.out) _
+    line_ended c.extend_from_slice.result written c.args.cells.now _ (vec_items c.args.out.now) (vec_items c.push.new.out) (vec_items c.push_following.new.out) _
     (omega arith)
-    c.in-ok-push.ensures
-    c.in-ok-push-following.ensures
-    c.extend-from-slice.ensures.items
+    c.in_ok-push.ensures
+    c.in_ok-push_following.ensures
+    c.extend_from_slice.ensures.items
