@@ -1,14 +1,14 @@
 -- What stands after a requirement was added or an item entered.
-use Rattle.std.proofs.Common.{◌≡◌, ℕ, suc, ◌+◌, Bool, true, false, cond, not, ◌&&◌, ◌||◌, T, eqb, List, [], ◌∷◌, map, length, ℤ, pos, negsuc, nat_abs, ◌≤ℤ◌, is_some, Some, None, Ok, Err, Option, Result, sym, refl, ap, ◌∙◌, subst, arith, w32, Fits}
+use Rattle.std.proofs.Common.{◌≡◌, ℕ, Bool, cond, ◌&&◌, ◌||◌, T, eqb, List, ◌∷◌, map, length, ℤ, pos, negsuc, nat_abs, ◌≤ℤ◌, is_some, Some, None, Ok, Err, Option, Result, sym, refl, ap, ◌∙◌, subst, arith, w32, Fits}
 use lib.Signed.{non_neg}
 use Rattle.std.proofs.lemmas.List.Edits.{length-insert}
 use Rattle.std.proofs.lemmas.List.{length-map}
 use Rattle.std.proofs.lemmas.Int.{ints}
 use Rattle.std.proofs.lemmas.Bool.{not-true, and_parts}
-use Rattle.faults.specs.Faults.{check, AnswersBy}
+use Rattle.faults.specs.Faults.{AnswersBy}
 use Rattle.faults.specs.declared.Fault.{Fault}
 use Rattle.faults.specs.declared.Refusal.{Refusal}
-use Rattle.faults.specs.declared.Refusal.TheVariants.{OutOfRange, DuplicateRequirement}
+use Rattle.faults.specs.declared.Refusal.TheVariants.{DuplicateRequirement}
 use Rattle.faults.proofs.Checks.{check_passed, first_none, no_refusal, its_value}
 use Rattle.requirement.specs.Making.{requirement_refusal, HoldsRow}
 use Rattle.requirement.specs.declared.rows.RequirementRow.{RequirementRow}
@@ -25,9 +25,10 @@ use Rattle.records.specs.Entries.{ItemMeaning, Meaning, a_requirement, item_mean
 use Rattle.records.specs.declared.rows.Entry.{Entry}
 use Rattle.records.specs.declared.rows.Entry.TheVariants.{Requirement as Its-requirement}
 use Rattle.records.specs.declared.rows.ItemRow.{ItemRow}
+use Rattle.lot.proofs.Refusals.{in_range_fields}
 use Rattle.lot.specs.Notes.{item_of}
 use Rattle.lot.specs.Rows.{row_of}
-use Rattle.lot.specs.Book.{is_number, is_named, in_range, fields_refusal, stands, enter_refusal, requirement_for}
+use Rattle.lot.specs.Book.{is_number, is_named, fields_refusal, stands, enter_refusal, requirement_for}
 use Rattle.lot.specs.declared.items.Item.{Item}
 use Rattle.lot.specs.declared.items.ItemFields.{ItemFields}
 use Rattle.lot_calls.specs.Lots.{items, numbers, room, Unchanged, StandsEntered, JudgedBy, Entered}
@@ -38,8 +39,7 @@ use Rattle.kinds.specs.Kinds.{answered, letter_of, spread_of}
 use Rattle.kinds.specs.declared.Kind.{Kind}
 use Rattle.kinds.specs.declared.Kind.TheVariants.{Normal as N, Rectangular as R}
 use Rattle.intake.specs.Items.{kind_by, knowledge_of, fields_of}
-use Rattle.intake.specs.Intake.{State, Adding, not_made, not_added, added, Entering, not_entered, entered, judgement_by, Holds, Steps, Adds, Enters, LeftByAdding, as_it_was, by_adding}
-use Rattle.intake.specs.declared.Taken.{Taken}
+use Rattle.intake.specs.Intake.{State, Adding, not_made, not_added, added, Entering, not_entered, entered, judgement_by, Holds, Adds, Enters, LeftByAdding, as_it_was, by_adding}
 use Rattle.intake.specs.declared.Taken.TheVariants.{Added as Was-added, Judged}
 use Rattle.intake.proofs.Standing.{lookup_inserted, stands_inserted, row_inserted, row_more}
 
@@ -185,7 +185,7 @@ layered row below b is-kind is_bias =
 pub entered_number : (lot : Lot) (qs : List Requirement) (f : ItemFields) (k : Answers) (j : Judgement) (lot' : Lot) → Entered lot qs f k (Ok j) lot' → (pos 1 ≤ℤ f.number) × (f.number ≤ℤ pos 999999999)
 entered_number lot qs f k j lot' done =
     let none = no_refusal (JudgedBy (requirement_for qs f) f k) (enter_refusal (numbers lot) (room lot) qs f k) j done.answer in
-    let fields = check_passed (in_range f) OutOfRange None (first_none (fields_refusal f) _ none) in
+    let fields = in_range_fields f (first_none (fields_refusal f) _ none) in
     let named = (and_parts (is_named f) _ fields).0 in
     range_out (pos 1) (pos 999999999) f.number (and_parts (is_number f.number) _ named).0
 

@@ -1,5 +1,5 @@
 -- What an item's record gives to be judged: its kind by letter and spread, with the bias as a layer over it.
-use Rattle.std.specs.Prelude.{ℕ, ◌*◌, cond, ℤ, pos, ◌==◌, unsigned_abs}
+use Rattle.std.specs.Prelude.{ℕ, ◌*◌, cond, pos, ◌==◌, unsigned_abs}
 use Rattle.knowledge.specs.Knowledge.{Answers}
 use Rattle.normal.specs.Normal.{normal}
 use Rattle.rectangular.specs.Rectangular.{rectangular}

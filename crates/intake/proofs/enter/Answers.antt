@@ -5,8 +5,8 @@ use Rattle.table.specs.Tables.{standing}
 use Rattle.intake.proofs.Steps.{enter_refused, was_entered, layered, entered_number, number_cast}
 use Rattle.intake.proofs.enter.Goals as goal
 
-pub overflow-cast-result : goal.overflow-cast-result
-overflow-cast-result c =
+pub overflow_cast-result : goal.overflow_cast-result
+overflow_cast-result c =
     let number : SFits w64 c.args.row.now.number = search rules in
     let range = entered_number c.args.lot.now (standing c.args.sheet.now.table) c.fields_of.result _ c.in-Ok.judgement c.enter.new.self c.in-Ok.ensures.outcome in
     simp to_z-of_z (number_cast c.args.row.now.number (rw c.fields_of.ensures at range))
