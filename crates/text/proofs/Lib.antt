@@ -1,7 +1,7 @@
 mod Steps
 mod Cuts
 mod Unique
-mod Rows
+pub mod Rows
 mod Readings
 mod Gathered
 pub mod Contents

@@ -14,13 +14,13 @@ returns-in-Ok c =
     let f : SFits w64 c.from.result = search rules in
     let same : z ≡ c.from.result = simp to_z-of_z refl in
     let told = its_value (λ (row : Row). row ≡ class_row l (nat_abs z)) (tally_refusal z) c.in-Ok.row c.in-Ok.ensures.outcome in
-    with_line (items l) c.args.class c.in-Ok.row (told ∙ ap (λ k. class_row l (nat_abs k)) (same ∙ c.from.ensures)) (sym c.if-not-is-empty.ensures)
+    with_line (items l) c.args.class c.in-Ok.row (told ∙ ap (λ k. class_row l (nat_abs k)) (same ∙ c.from.ensures)) (sym c.if-not-is_empty.ensures)
 
-pub returns-in-default : goal.returns-in-default
-returns-in-default c =
+pub returns-in_default : goal.returns-in_default
+returns-in_default c =
     let l = c.args.lot.now in
     let z : ℤ = to_z w64 (of_z w64 c.from.result) in
     let f : SFits w64 c.from.result = search rules in
     let same : z ≡ c.from.result = simp to_z-of_z refl in
     let told = its_value (λ (row : Row). row ≡ class_row l (nat_abs z)) (tally_refusal z) c.in-Ok.row c.in-Ok.ensures.outcome in
-    without_line (items l) c.args.class c.in-Ok.row (told ∙ ap (λ k. class_row l (nat_abs k)) (same ∙ c.from.ensures)) (sym c.if-not-is-empty.ensures)
+    without_line (items l) c.args.class c.in-Ok.row (told ∙ ap (λ k. class_row l (nat_abs k)) (same ∙ c.from.ensures)) (sym c.if-not-is_empty.ensures)

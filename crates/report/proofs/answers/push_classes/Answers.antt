@@ -12,7 +12,7 @@ loop-class-preserved c =
     let es = items c.args.lot.now in
     let i = c.loop-class.class-index in
     let start = vec_items c.args.out.now in
-    c.in-ok-push-if.ensures ∙ ap (λ bs. bs ++ flat_map spelled (listed c.class_line.result)) c.loop-class.invariant
+    c.in_ok-push_if.ensures ∙ ap (λ bs. bs ++ flat_map spelled (listed c.class_line.result)) c.loop-class.invariant
     ∙ ap (λ o. (start ++ flat_map (class_bytes es) (take i classes)) ++ flat_map spelled (listed o)) c.class_line.ensures
     ∙ flat_map_more (class_bytes es) start (take i classes) (get_or classes i 0)
     ∙ ap (λ cs. start ++ flat_map (class_bytes es) cs) (sym (take_more classes i 0 c.loop-class-test.true))

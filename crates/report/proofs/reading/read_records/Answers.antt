@@ -11,14 +11,14 @@ loop-init c =
 pub loop-smaller : goal.loop-smaller
 loop-smaller c =
     let turned = subst (λ (more : Bool). Turn c.loop.reader c.turn.new.reader c.loop.sheet c.loop.lot c.turn.new.sheet c.turn.new.lot (vec_items c.loop.out) (vec_items c.turn.new.out) more)
-    c.if-branch.true c.in-ok-turn.ensures.turn in
+    c.if-branch.true c.in_ok-turn.ensures.turn in
     (turned _ (holds_itself c.loop.sheet c.loop.lot)).shorter
 
 pub loop-preserved : goal.loop-preserved
 loop-preserved c =
     let turned = subst (λ (more : Bool). Turn c.loop.reader c.turn.new.reader c.loop.sheet c.loop.lot c.turn.new.sheet c.turn.new.lot (vec_items c.loop.out) (vec_items c.turn.new.out) more)
-    c.if-branch.true c.in-ok-turn.ensures.turn in (
-      c.in-ok-turn.ensures.fields,
+    c.if-branch.true c.in_ok-turn.ensures.turn in (
+      c.in_ok-turn.ensures.fields,
       λ s holds.
           let d = c.loop.invariant.1 s holds in
           one_turn c.args.text.now s (vec_items c.args.out.now) c.loop.reader c.turn.new.reader c.loop.sheet c.turn.new.sheet c.loop.lot c.turn.new.lot (vec_items c.loop.out)
@@ -28,7 +28,7 @@ loop-preserved c =
 pub returns : goal.returns
 returns c =
     let finished = subst (λ (more : Bool). Turn c.loop.reader c.turn.new.reader c.loop.sheet c.loop.lot c.turn.new.sheet c.turn.new.lot (vec_items c.loop.out) (vec_items c.turn.new.out) more)
-    c.if-branch.false c.in-ok-turn.ensures.turn in
+    c.if-branch.false c.in_ok-turn.ensures.turn in
     λ s holds.
     let d = c.loop.invariant.1 s holds in
     all_turns c.args.text.now s (vec_items c.args.out.now) c.loop.reader c.loop.sheet c.turn.new.sheet c.loop.lot c.turn.new.lot (vec_items c.loop.out) (vec_items c.turn.new.out) d

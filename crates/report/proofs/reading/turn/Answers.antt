@@ -22,23 +22,23 @@ returns-in-Err c =
 pub returns-in-ok-push-if : goal.returns-in-ok-push-if
 returns-in-ok-push-if c =
     let r = c.args.reader.now in
-    let r' = c.next-record.new.self in
+    let r' = c.next_record.new.self in
     let old = c.args.fields.now in
-    let new = c.next-record.new.fields in
+    let new = c.next_record.new.fields in
     let rec = c.in-Some.record in
     let hands = subst (λ (o : Option Record). Reads r r' old new (Ok o)) c.in-Some.is c.in-Ok.ensures in
     let takes = subst
-    (λ (k : ℕ). TakesIn rec.number (answer_of rec.number (cells (take k new))) c.take-in-answer.result c.args.sheet.now c.args.lot.now c.take-in-answer.new.sheet c.take-in-answer.new.lot)
-    c.min-count.ensures c.take-in-answer.ensures.step in
+    (λ (k : ℕ). TakesIn rec.number (answer_of rec.number (cells (take k new))) c.take_in-answer.result c.args.sheet.now c.args.lot.now c.take_in-answer.new.sheet c.take_in-answer.new.lot)
+    c.min-count.ensures c.take_in-answer.ensures.step in
     let written = c.in-ok-push-if.ensures ∙ ap (λ l. vec_items c.args.out.now ++ flat_map spelled (listed l)) c.line_for.ensures in
     -- whatever became of the record, there was one
-    let turned : Turn r r' c.args.sheet.now c.args.lot.now c.take-in-answer.new.sheet c.take-in-answer.new.lot (vec_items c.args.out.now) (vec_items c.push-if.new.out) true = λ s holds.
-    record_taken r r' old new rec c.requires hands c.args.sheet.now c.take-in-answer.new.sheet c.args.lot.now c.take-in-answer.new.lot c.take-in-answer.result (vec_items c.args.out.now)
-    (vec_items c.push-if.new.out) s takes written holds in
+    let turned : Turn r r' c.args.sheet.now c.args.lot.now c.take_in-answer.new.sheet c.take_in-answer.new.lot (vec_items c.args.out.now) (vec_items c.push_if.new.out) true = λ s holds.
+    record_taken r r' old new rec c.requires hands c.args.sheet.now c.take_in-answer.new.sheet c.args.lot.now c.take_in-answer.new.lot c.take_in-answer.result (vec_items c.args.out.now)
+    (vec_items c.push_if.new.out) s takes written holds in
     record { fields = ap length hands.written ∙ laid_length hands.ps old ∙ c.requires; turn = turned }
 
 pub returns-in-None : goal.returns-in-None
 returns-in-None c =
     let r = c.args.reader.now in
-    let e = subst (λ (o : Option Record). Reads r c.next-record.new.self c.args.fields.now c.next-record.new.fields (Ok o)) c.in-None.is c.in-Ok.ensures in
+    let e = subst (λ (o : Option Record). Reads r c.next_record.new.self c.args.fields.now c.next_record.new.fields (Ok o)) c.in-None.is c.in-Ok.ensures in
     record { fields = ap length e.2 ∙ c.requires; turn = λ s holds. nothing_left r s c.args.sheet.now c.args.lot.now _ e.0 holds }
