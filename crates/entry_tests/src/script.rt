@@ -63,11 +63,11 @@ fn play_one<X: Shown>(
         Step::Enters(name, place) => {
             assert_eq!(rt; table.insert(named(entries, name)?), Ok(place));
             Ok(())
-        },
+        }
         Step::Refuses(name, why) => {
             assert_eq!(rt; table.insert(named(entries, name)?), Err(why));
             Ok(())
-        },
+        }
         Step::Removes(name) => {
             let entry = named(entries, name)?;
             assert_eq!(rt; told(table.remove(entry.key())), Some(entry.shown()));
@@ -92,11 +92,11 @@ fn play_one<X: Shown>(
         Step::Vacant(place) => {
             assert_eq!(rt; told(table.at(place)), None);
             Ok(())
-        },
+        }
         Step::Counts(count) => {
             assert_eq!(rt; table.len(), count);
             Ok(())
-        },
+        }
     }
 }
 

@@ -5,8 +5,8 @@ use sheet::{Sheet, check_places};
 use std::test::Fail;
 
 // The number of a refusal, 0 where there is none.
-fn number(res: Result<(), Fault>) -> u8 {
-    match res {
+fn number(answer: Result<(), Fault>) -> u8 {
+    match answer {
         Ok(()) => 0,
         Err(fault) => fault.refusal.number(),
     }
