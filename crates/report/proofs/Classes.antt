@@ -1,5 +1,5 @@
 -- The lines of the classes.
-use Rattle.std.proofs.Common.{◌≡◌, ℕ, Bool, true, false, cond, not, List, [], ◌∷◌, ◌++◌, Some, None, sym, refl, ap, ◌∙◌}
+use Rattle.std.proofs.Common.{◌≡◌, ℕ, true, false, not, List, [], ◌∷◌, ◌++◌, Some, None, sym, refl, ap, ◌∙◌}
 use Rattle.std.specs.List.{flat_map}
 use Rattle.std.proofs.lemmas.Bool.{cond-true, cond-false}
 use Rattle.lot.specs.Rows.{row_of, counts_none, some_of}
@@ -7,7 +7,6 @@ use Rattle.lot.specs.declared.items.Item.{Item as Entry}
 use Rattle.lot.specs.declared.items.Row.{Row}
 use Rattle.lot.proofs.Counts.{counts_some}
 use Rattle.lines.specs.Lines.{spelled}
-use Rattle.lines.specs.declared.forms.Line.{Line}
 use Rattle.lines.specs.declared.forms.Line.TheVariants.{Class}
 use Rattle.report.specs.Output.{listed, class_line}
 use Rattle.report.proofs.Turning.{joined_more}

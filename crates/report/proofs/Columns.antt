@@ -1,14 +1,13 @@
 -- The fields of a record as the list of ten places shows them: a record that is longer is malformed in either view.
-use Rattle.std.proofs.Common.{◌≡◌, ℕ, zero, suc, ◌+◌, ◌-◌, ◌<◌, ◌≤◌, min, Bool, true, false, cond, ◌&&◌, eqb, List, [], ◌∷◌, ◌++◌, map, length, take, drop, Some, None, Ok, Err, Option, Result, sym, refl, ap, ◌∙◌, subst, ⊎_elim, arith}
+use Rattle.std.proofs.Common.{◌≡◌, ℕ, ◌<◌, ◌≤◌, min, false, eqb, List, [], ◌∷◌, map, length, take, drop, Some, Err, sym, ap, ◌∙◌, ⊎_elim, arith}
 use Rattle.std.specs.Str.{bytes_eq}
-use Rattle.std.proofs.lemmas.List.{length-map, length-take, take_all, take-take, take-append-le, drop_all, append-nil, take-map}
+use Rattle.std.proofs.lemmas.List.{length-map, length-take, take_all, take-take, take-append-le}
 use Rattle.std.proofs.lemmas.Bool.{cases_lt, and_right, ne_eqb, cond-false}
-use Rattle.faults.specs.declared.Fault.{Fault}
 use Rattle.text.specs.declared.field.Placed.{Placed}
 use Rattle.text.specs.Fronts.{Numbered, laid}
 use Rattle.fields.specs.Answers.{said}
 use Rattle.records.specs.Cells.{Cell, cell, cells, contents, outcome}
-use Rattle.records.specs.Entries.{is_record, is_requirement, is_item, word_REQ, word_ITEM, malformed, entry_fault, requirement_fault, item_fault, meaning_of, answer_of, meaning, Meaning}
+use Rattle.records.specs.Entries.{is_record, is_requirement, is_item, word_REQ, word_ITEM, malformed, requirement_fault, item_fault, meaning_of, answer_of, meaning}
 use Rattle.records.proofs.Numbering.{numbered_meaning}
 
 -- a record of too many fields is none

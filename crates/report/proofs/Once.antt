@@ -1,11 +1,7 @@
 -- A text reads in one way.
-use Rattle.std.proofs.Common.{◌≡◌, ℕ, ◌+◌, ◌<◌, ◌≤◌, List, [], ◌∷◌, map, length, Some, None, Option, sym, refl, ap, ◌∙◌, subst, arith}
+use Rattle.std.proofs.Common.{◌≡◌, ℕ, ◌+◌, List, [], ◌∷◌, map, Some, Option, sym, refl, subst, arith}
 use Rattle.faults.specs.declared.Fault.{Fault}
-use Rattle.faults.specs.declared.Refusal.{Refusal}
 use Rattle.text.specs.Content.{saying}
-use Rattle.text.specs.Grammar.{Form}
-use Rattle.text.specs.Reading.{longest}
-use Rattle.text.specs.Records.{First, Broken}
 use Rattle.text.proofs.Rows.{begins_once, not_empty}
 use Rattle.report.specs.Reading.{ReadsOn, at_end, breaks_off, goes_on, Reads, too_long, from_start}
 

@@ -1,12 +1,12 @@
 -- What one turn does, by what the reader hands out and what the record does.
-use Rattle.std.proofs.Common.{◌≡◌, ℕ, ◌+◌, ◌<◌, ◌≤◌, min, List, [], ◌∷◌, ◌++◌, map, length, take, drop, Some, None, Option, Result, sym, refl, ap, ◌∙◌, subst, arith}
+use Rattle.std.proofs.Common.{◌≡◌, ℕ, ◌+◌, min, List, [], ◌∷◌, ◌++◌, map, length, take, drop, Some, None, Result, sym, refl, ap, ◌∙◌, subst, arith}
 use Rattle.std.specs.List.{flat_map}
 use Rattle.std.proofs.lemmas.List.{append-nil, length-append, length-take, length-drop}
 use Rattle.faults.specs.declared.Fault.{Fault}
 use Rattle.fields.specs.Answers.{said}
 use Rattle.text.specs.Content.{saying}
 use Rattle.text.specs.Fronts.{forms, laid}
-use Rattle.text.specs.Reading.{left, handed, longest, Hands, Refuses, too_long, broken}
+use Rattle.text.specs.Reading.{left, handed, Hands, Refuses, too_long, broken}
 use Rattle.text.specs.declared.field.Placed.{Placed}
 use Rattle.text.specs.declared.reader.Reader.{Reader}
 use Rattle.text.specs.declared.reader.methods.Record.{Record}

@@ -1,5 +1,5 @@
 -- The whole output, from its parts.
-use Rattle.std.proofs.Common.{◌≡◌, ℕ, Bool, cond, not, List, [], ◌∷◌, ◌++◌, map, length, Some, None, Option, sym, refl, ap, ◌∙◌, subst}
+use Rattle.std.proofs.Common.{◌≡◌, ℕ, cond, not, List, [], ◌∷◌, ◌++◌, map, length, Some, None, sym, refl, ap, ◌∙◌}
 use Rattle.std.specs.List.{flat_map}
 use Rattle.std.proofs.lemmas.List.{append_assoc}
 use Rattle.table.specs.Tables.{standing, capacity}
@@ -8,13 +8,11 @@ use Rattle.sheet.specs.declared.sheets.Sheet.{Sheet}
 use Rattle.lot.specs.Book.{stands}
 use Rattle.lot.specs.Rows.{row_of, counts_none, some_of}
 use Rattle.lot.specs.declared.items.Item.{Item as Entry}
-use Rattle.lot.specs.declared.items.Row.{Row}
 use Rattle.lot.proofs.Counts.{counts_some}
 use Rattle.lot_calls.specs.Lots.{items, room}
 use Rattle.lot_calls.specs.declared.lots.Lot.{Lot}
 use Rattle.intake.specs.Intake.{Holds}
 use Rattle.lines.specs.Lines.{spelled}
-use Rattle.lines.specs.declared.forms.Line.{Line}
 use Rattle.lines.specs.declared.forms.Line.TheVariants.{Header, Class}
 use Rattle.report.specs.Output.{at_first, listed, closing, class_line, class_lines, classes, OutputFor}
 use Rattle.report.specs.Turns.{Through}

@@ -1,4 +1,4 @@
-use Rattle.std.proofs.Common.{◌≡◌, Bool, vec_items, refl, subst}
+use Rattle.std.proofs.Common.{Bool, vec_items, refl, subst}
 use Rattle.report.specs.Turns.{Turn}
 use Rattle.report.proofs.Turning.{at_start, one_turn, all_turns, holds_itself}
 use Rattle.report.proofs.reading.read_records.Goals as goal

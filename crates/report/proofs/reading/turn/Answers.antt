@@ -1,4 +1,4 @@
-use Rattle.std.proofs.Common.{◌≡◌, ℕ, true, ◌++◌, length, take, Ok, vec_items, Option, sym, ap, ◌∙◌, subst}
+use Rattle.std.proofs.Common.{ℕ, true, ◌++◌, length, take, Ok, vec_items, Option, ap, ◌∙◌, subst}
 use Rattle.std.specs.List.{flat_map}
 use Rattle.text.specs.Reading.{Reads}
 use Rattle.text.specs.declared.reader.methods.Record.{Record}
@@ -16,11 +16,11 @@ returns-in-Err c =
     let e = c.in-Err.ensures in
     record {
       fields = ap length e.2 ∙ c.requires;
-      turn = λ s holds. text_refused c.args.reader.now s c.args.sheet.now c.args.lot.now _ _ c.in-Err.fault e.0 c.in-ok-push.ensures holds;
+      turn = λ s holds. text_refused c.args.reader.now s c.args.sheet.now c.args.lot.now _ _ c.in-Err.fault e.0 c.in_ok-push-in-Err.ensures holds;
     }
 
-pub returns-in-ok-push-if : goal.returns-in-ok-push-if
-returns-in-ok-push-if c =
+pub returns-in_ok-push_if-in-Some : goal.returns-in_ok-push_if-in-Some
+returns-in_ok-push_if-in-Some c =
     let r = c.args.reader.now in
     let r' = c.next_record.new.self in
     let old = c.args.fields.now in
@@ -30,7 +30,7 @@ returns-in-ok-push-if c =
     let takes = subst
     (λ (k : ℕ). TakesIn rec.number (answer_of rec.number (cells (take k new))) c.take_in-answer.result c.args.sheet.now c.args.lot.now c.take_in-answer.new.sheet c.take_in-answer.new.lot)
     c.min-count.ensures c.take_in-answer.ensures.step in
-    let written = c.in-ok-push-if.ensures ∙ ap (λ l. vec_items c.args.out.now ++ flat_map spelled (listed l)) c.line_for.ensures in
+    let written = c.in_ok-push_if-in-Some.ensures ∙ ap (λ l. vec_items c.args.out.now ++ flat_map spelled (listed l)) c.line_for.ensures in
     -- whatever became of the record, there was one
     let turned : Turn r r' c.args.sheet.now c.args.lot.now c.take_in-answer.new.sheet c.take_in-answer.new.lot (vec_items c.args.out.now) (vec_items c.push_if.new.out) true = λ s holds.
     record_taken r r' old new rec c.requires hands c.args.sheet.now c.take_in-answer.new.sheet c.args.lot.now c.take_in-answer.new.lot c.take_in-answer.result (vec_items c.args.out.now)
