@@ -57,7 +57,7 @@ nothing_acceptable =
     refusal_holds (two_shares (pos 150)) (Shares 25000 25000) Two refl refl refl (rectangular 100) (Some (record { lower = Some (pos 95); upper = Some (pos 55) })) NothingAcceptable
     (both_sides (pos 150)) refl
 
--- a verdict by the four_way rule
+-- a verdict by the four-way rule
 four : (y : ℤ) (v : Verdict) → Judges (pos 10) y v (Multiple (pos 100)) (Some (pos 4950)) (Some (pos 5030)) Four → Holds (verdict_on four_way (pos 10) y v)
 four = verdict_holds four_way (Multiple (pos 100)) Four refl refl refl (pos 10)
 

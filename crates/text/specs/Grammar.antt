@@ -33,7 +33,7 @@ pub data Form : Type 0 where
   non_escaped : List ℕ → Form
   escaped : List ℕ → Form
 
--- field = (escaped / non_escaped), escaped = DQUOTE *(TEXTDATA / COMMA / CR / LF / 2DQUOTE) DQUOTE, non_escaped = *TEXTDATA
+-- field = (escaped / non-escaped), escaped = DQUOTE *(TEXTDATA / COMMA / CR / LF / 2DQUOTE) DQUOTE, non-escaped = *TEXTDATA
 abbrev pub IsField : Form → Type 0
 IsField (non_escaped bs) = AllByRecursion TEXTDATA bs
 IsField (escaped bs) = Inside bs
