@@ -18,13 +18,15 @@ use Rattle.lot.specs.declared.items.ItemFields.{ItemFields}
 abbrev pub is_number : ℤ → Bool
 is_number x = from_to (pos 1) (pos 999999999) x
 
--- number, class and characteristic are in range, and every field is
+-- number, class and characteristic are in range
 abbrev pub is_named : ItemFields → Bool
 is_named f = is_number f.number && (is_class f.class && is_characteristic f.characteristic)
 
+-- and so is every other field
 abbrev pub in_range : ItemFields → Bool
 in_range f = is_named f && (is_expanded f.expanded && in_reach f.reading)
 
+-- the fields are in range
 abbrev pub fields_refusal : ItemFields → Option Refusal
 fields_refusal f =
     check (is_number f.number) OutOfRange
