@@ -22,7 +22,7 @@ pub struct Front<'a> {
 fn lf_at(text: &[u8], at: usize) -> bool
     ensures { Decides result ((cs : List ℕ) × (drop at text.now ≡ LF ∷ cs)) }
 {
-    at < text.len() && text[at] == b'\n'
+    text.get(at) == Some(&b'\n')
 }
 
 // Whether a quoted field is not closed yet.
@@ -75,17 +75,14 @@ pub fn scan<'a>(text: &'a [u8]) -> Result<Front<'a>, Refusal>
     ensures { MatchResult result (λ f. Leads (form f.field) f.ending f.rest.now text.now) (λ e. Offence e text.now) }
 {
     let mut state = State::Start;
-    let mut at = 0;
-    while at < text.len() {
-        match step(state, text[at], lf_at(text, at + 1)) {
+    for (at, byte) in text.iter().enumerate() {
+        match step(state, *byte, lf_at(text, at + 1))? {
             Effect::On(next) => state = next,
             Effect::Off(ending) => return Ok(cut(text, at, state, ending)),
-            Effect::Refused(refusal) => return Err(refusal),
         }
-        at += 1;
     }
     if is_open(state) {
         return Err(Refusal::BrokenQuotes);
     }
-    Ok(cut(text, at, state, Ending::Text))
+    Ok(cut(text, text.len(), state, Ending::Text))
 }
