@@ -25,20 +25,13 @@ fn lf_at(text: &[u8], at: usize) -> bool
     text.get(at) == Some(&b'\n')
 }
 
-// Whether a quoted field is not closed yet.
-fn is_open(state: State) -> bool
-    ensures { MatchBool result (state ≡ Quoted) (Complete state) }
-{
-    matches!(state, State::Quoted)
-}
-
 // The field that these bytes are, where the machine stands in `state` after them.
 fn whole<'a>(bytes: &'a [u8], state: State) -> Field<'a>
     requires { SoFar state bytes.now × Complete state }
     ensures { IsField (form result) × (spelling (form result) ≡ bytes.now) }
 {
-    match state {
-        State::AfterQuote => Field::Quoted(&bytes[1..bytes.len() - 1]),
+    match (state, bytes) {
+        (State::AfterQuote, [_, inner @ .., _]) => Field::Quoted(inner),
         _ => Field::Bare(bytes),
     }
 }
@@ -48,10 +41,9 @@ fn past<'a>(tail: &'a [u8], ending: Ending) -> &'a [u8]
     requires { (after : List ℕ) × Ended ending after tail.now }
     ensures { Ended ending result.now tail.now }
 {
-    match ending {
-        Ending::Comma => &tail[1..],
-        Ending::Line => &tail[2..],
-        Ending::Text => tail,
+    match (ending, tail) {
+        (Ending::Comma, [_, after @ ..]) | (Ending::Line, [_, _, after @ ..]) => after,
+        _ => tail,
     }
 }
 
@@ -81,8 +73,8 @@ pub fn scan<'a>(text: &'a [u8]) -> Result<Front<'a>, Refusal>
             Effect::Off(ending) => return Ok(cut(text, at, state, ending)),
         }
     }
-    if is_open(state) {
-        return Err(Refusal::BrokenQuotes);
+    match state {
+        State::Quoted => Err(Refusal::BrokenQuotes),
+        _ => Ok(cut(text, text.len(), state, Ending::Text)),
     }
-    Ok(cut(text, text.len(), state, Ending::Text))
 }

@@ -1,4 +1,4 @@
-use Rattle.std.proofs.Common.{arith, rules}
+use Rattle.std.proofs.Common.{rules}
 use Rattle.std.proofs.lemmas.Result.{err_from_is_err_and}
 use Rattle.text.proofs.Cuts.{ends, offends, open_at_end}
 use Rattle.text.proofs.scan.scan.Goals as goal
@@ -11,5 +11,5 @@ returns-in_err-next c =
 pub cut-requires-clause-ended : goal.cut-requires-clause-ended
 cut-requires-clause-ended c = search (rules, ends)
 
-pub returns-then-is_open : goal.returns-then-is_open
-returns-then-is_open c = search (rules, open_at_end)
+pub returns-in-Quoted : goal.returns-in-Quoted
+returns-in-Quoted c = search (rules, open_at_end)
