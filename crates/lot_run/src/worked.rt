@@ -6,8 +6,9 @@ ghost use Rattle.lot_calls.specs.Guarantee.{StandsAfter};
 ghost use Rattle.lot_run.specs.Grades.{GradeSheet};
 ghost use Rattle.lot_run.specs.Worked.{Worked};
 
-use crate::grades::{grade, grade_requirement};
+use crate::grades::grade;
 use faults::Fault;
+use figures::grade_requirement;
 use judging::Judgement;
 use lot::{Item, Row};
 use lot_calls::Lot;
