@@ -126,7 +126,7 @@ pub(crate) fn kind_letter(field: Placed<'_>) -> Result<char, Fault>
 fn names_mode(number: i64) -> bool
     ensures { result ≡ is_some (mode_of number) }
 {
-    Mode::from_number(number).is_some()
+    Mode::try_from(number).is_ok()
 }
 
 // The number of a mode.
