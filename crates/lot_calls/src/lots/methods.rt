@@ -1,4 +1,5 @@
-// Making a lot, and the calls on it.
+// Making a lot, and the calls on it. A clause `same` says that a call leaves the lot over the caller's own list, which is a fact of
+// before and after together, so that no field of the lot can hold it.
 ghost use Rattle.std.specs.Prelude.{◌≡◌, true, [], length, pos, Some, None, unsigned_abs};
 ghost use Rattle.std.specs.List.{slice_get};
 ghost use Rattle.faults.specs.Faults.{AnswersBy};
