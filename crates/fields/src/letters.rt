@@ -1,8 +1,7 @@
 // Letters.
-ghost use Rattle.std.specs.Prelude.{◌≡◌, [], ◌∷◌, Decides, MatchOption};
+ghost use Rattle.std.specs.Prelude.{MatchOption};
 ghost use Rattle.faults.specs.declared.Refusal.TheVariants.{UnknownLetter};
 ghost use Rattle.text.specs.Content.{content_of};
-ghost use Rattle.text.specs.Grammar.{DQUOTE};
 ghost use Rattle.fields.specs.Answers.{said, Told};
 ghost use Rattle.fields.specs.Values.{IsLetter, SaysLetter};
 

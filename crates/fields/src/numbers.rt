@@ -1,10 +1,10 @@
 // Numbers, and limits, which may be absent.
-ghost use Rattle.std.specs.Prelude.{◌≡◌, ◌^◌, ◌<◌, ◌≤◌, [], pos, neg_ℤ, if◌then◌else◌, Decides};
+ghost use Rattle.std.specs.Prelude.{◌≡◌, [], Decides};
 ghost use Rattle.std.specs.Option.{SomeIff};
 ghost use Rattle.faults.specs.declared.Refusal.TheVariants.{NotANumber};
 ghost use Rattle.text.specs.Content.{content_of};
 ghost use Rattle.fields.specs.Answers.{said, Told};
-ghost use Rattle.fields.specs.Values.{Numeral, worth, negative, magnitude, IsNumber, number_of, IsLimit, SaysLimit};
+ghost use Rattle.fields.specs.Values.{Numeral, worth, IsNumber, number_of, IsLimit, SaysLimit};
 
 use faults::{Fault, Refusal};
 use text::{Field, Placed};

@@ -9,7 +9,7 @@ pub tail_is : {a b : ℕ} {xs ys : List ℕ} → a ∷ xs ≡ b ∷ ys → xs �
 tail_is e = cc
 
 -- bytes between quotes end at one quote
-pub closes_once : {qs rs : List ℕ} (t u : List ℕ) → Inside qs → Inside rs → Unquoted t → Unquoted u → qs ++ DQUOTE ∷ t ≡ rs ++ DQUOTE ∷ u → (qs ≡ rs) × (t ≡ u)
+closes_once : {qs rs : List ℕ} (t u : List ℕ) → Inside qs → Inside rs → Unquoted t → Unquoted u → qs ++ DQUOTE ∷ t ≡ rs ++ DQUOTE ∷ u → (qs ≡ rs) × (t ≡ u)
 closes_once t u nothing nothing m n e = (refl, cc)
 closes_once t u nothing (other k j) m n e = absurd (k cc)
 closes_once t u nothing (doubled j) m n e = absurd (subst Unquoted (tail_is e) m refl)
@@ -65,7 +65,7 @@ stray_follows (cr lone) a_comma e = grind arith
 stray_follows (cr lone) (a_line_end {bs}) e = lone bs (tail_is e)
 
 -- TEXTDATA reaches up to one place
-pub halts_once : (f g t u : List ℕ) → AllByRecursion TEXTDATA f → AllByRecursion TEXTDATA g → Halts t → Halts u → f ++ t ≡ g ++ u → (f ≡ g) × (t ≡ u)
+halts_once : (f g t u : List ℕ) → AllByRecursion TEXTDATA f → AllByRecursion TEXTDATA g → Halts t → Halts u → f ++ t ≡ g ++ u → (f ≡ g) × (t ≡ u)
 halts_once [] [] t u a b h k e = (refl, e)
 halts_once [] (y ∷ g) t u a b h k e = absurd (subst Halts e h b.0)
 halts_once (x ∷ f) [] t u a b h k e = absurd (subst Halts (sym e) k a.0)
