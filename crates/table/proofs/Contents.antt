@@ -39,7 +39,7 @@ module _ {E : Type 0} where
   sum_removed f xs i e at = sum_by-IsPermutation f (e ∷ remove xs i) xs (shuffled_removed xs i e at) ∙ sum_by-cons f e (remove xs i)
 
 -- with no place every insertion is refused as full
-pub full_without_place : {E K : Type 0} (key : E → K) (t : Table E) (k : K) (r : Result ℕ Refused) → capacity t ≡ 0 → length (standing t) ≤ capacity t → Allowed key t k r → r ≡ Err Full
+pub full_without_place : {E K : Type 0} {entry ord eq partial : _} (key : E → K) (t : Table E K entry ord eq partial) (k : K) (r : Result ℕ Refused) → capacity t ≡ 0 → length (standing t) ≤ capacity t → Allowed key t k r → r ≡ Err Full
 full_without_place key t k (Ok i) none within allowed = absurd (omega (arith, allowed.1))
 full_without_place key t k (Err Present) none within allowed = absurd (omega (arith, allowed.1, length-map (standing t) key))
 full_without_place key t k (Err Full) none within allowed = refl

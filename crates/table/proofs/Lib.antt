@@ -1,8 +1,6 @@
 pub mod Orders
 pub mod Ascents
-mod Bisection
-mod Shifts
+mod Finding
 mod Edits
 pub mod Standing
 pub mod Contents
-mod Fronts
