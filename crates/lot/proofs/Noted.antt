@@ -4,10 +4,10 @@ use Rattle.std.specs.List.{slice_get, insert, remove, ContainsAt as Has}
 use Rattle.std.specs.Cmp.{ranks}
 use Rattle.std.specs.Ordering.{MatchOrdering, nat_cmp}
 use Rattle.std.proofs.lemmas.Bool.{true≢false, lt-ltb, le-ltb, eq-eqb, ne_eqb, eqb-true, cases_Bool, cond-true, cond-false, or_left, or_right, or_cases}
-use Rattle.std.proofs.lemmas.List.{length-map}
+use Rattle.std.proofs.lemmas.List.{length-map, get_or-map}
 use Rattle.std.proofs.lemmas.List.Edits.{length-insert, get_or-insert_at}
 use Rattle.table.specs.Keys.{Ascending}
-use Rattle.table.proofs.Ascents.{ascends}
+use Rattle.std.proofs.lemmas.Map.Keys.{below_from_sorted, sorted_tail}
 use Rattle.table.proofs.Standing.{nth_at}
 use Rattle.lot.specs.Notes.{Note, stored}
 use Rattle.lot.specs.Book.{number_of, noted, struck, stands}
@@ -17,22 +17,16 @@ use Rattle.lot.specs.declared.items.Item.{Item}
 abbrev pub Rising : List Item → Type 0
 Rising items = Ascending (λ e. e.number) nat_cmp items
 
--- the test of two numbers, and what it says
-less_from : (a b : ℕ) → nat_cmp a b ≡ Less → a < b
-less_from a b e = subst (λ (o : Ordering). MatchOrdering o (a < b) (a ≡ b) (b < a)) e (ranks a b)
-
-both : (a b : Bool) → T (a && b) → T a × T b
-both true b t = (tt, t)
-both false b t = absurd t
-
 -- after the first entry the numbers go on rising
 tail_rises : (x : Item) (xs : List Item) → Rising (x ∷ xs) → Rising xs
-tail_rises x xs up = (both _ _ up).1
+tail_rises x xs up = sorted_tail nat_cmp x.number (map (λ e. e.number) xs) up
 
 -- the first entry's number is less than that of any later entry
 first_less : (x : Item) (xs : List Item) (j : ℕ) (d : Item) → Rising (x ∷ xs) → j < length xs → x.number < (get_or xs j d).number
 first_less x xs j d up within =
-    less_from x.number (get_or xs j d).number (ascends (λ e. e.number) nat_cmp (x ∷ xs) 0 (suc j) d up (omega arith) (omega arith))
+    let size = length-map xs (λ e. e.number) in
+    let less = below_from_sorted (map (λ e. e.number) (x ∷ xs)) 0 (suc j) d.number up (omega arith) (omega arith) in
+    simp (get_or-map (λ (e : Item). e.number) xs j d d.number within) at less
 
 -- an entry put in so that the numbers rise stands where the book has its note
 pub noted_at : (ns : List Note) (n : Note) (i : ℕ) → i ≤ length ns → Rising (insert (map stored ns) i (stored n)) → insert (map stored ns) i (stored n) ≡ map stored (noted n ns)

@@ -11,7 +11,6 @@ invariant_of-result c =
     let none = standing c.new-table.result in
     let tallied = tallied_none none e.empty.0 in
     record {
-      ordered = e.ordered;
       few = omega (arith, e.empty.1, c.usable_places-limit.ensures, places_few (length c.args.places.now));
       classed = subst Classed (sym e.empty.0) tt;
       tallied = rows_by none _ tallied;

@@ -17,7 +17,7 @@ raise-requires c =
     record {
       first = (class_from e class).0;
       last = (class_from e class).1;
-      many = subst (RowOfAtMost 10000) (sym at) (row_few (items l) e.class 10000 (omega (arith, l.ordered.0, l.few)));
+      many = subst (RowOfAtMost 10000) (sym at) (row_few (items l) e.class 10000 (omega (arith, l.table.ordered.0, l.few)));
       one = subst (RowOfAtMost 1) (sym c.share_of.ensures) (share_few e.judgement);
     }
 
@@ -27,18 +27,17 @@ invariant_of-self c =
     let e = c.args.item in
     let t' = c.insert.new.self in
     let s = c.insert.ensures in
-    let o = s.outcome l.ordered in
-    let stood = granted l.table t' e c.requires.free c.insert.result o.0 s.change in
+    let stood = granted l.table t' e c.requires.free c.insert.result s.outcome s.change in
     let class = its_class e c.requires.classed in
     let share = c.share_of.result in
     let put = tallied_put e l.rows.by_class class (items l) (standing t') stood.0 e.class share (plus (row_for l.rows e.class) share) (row_of 1 []) refl c.share_of.ensures refl stood.2
     (tallied_by (items l) l.rows l.tallied) in
     let tallied = rows_by (standing t') c.raise.new.self (subst (NineTallied (standing t')) (sym c.raise.ensures) put) in
-    record { ordered = o.1; few = omega (arith, s.room, l.few); classed = subst Classed (sym stood.2) (classed_inserted (items l) stood.0 e class l.classed); tallied = tallied }
+    record { few = omega (arith, s.room, l.few); classed = subst Classed (sym stood.2) (classed_inserted (items l) stood.0 e class l.classed); tallied = tallied }
 
 pub returns : goal.returns
 returns c =
     let l = c.args.self.now in
     let s = c.insert.ensures in
-    let stood = granted l.table c.insert.new.self c.args.item c.requires.free c.insert.result (s.outcome l.ordered).0 s.change in
+    let stood = granted l.table c.insert.new.self c.args.item c.requires.free c.insert.result s.outcome s.change in
     record { same = s.same; stands = record { place = stood.0; within = stood.1; items_are = stood.2; beyond_is = stood.3 }; keeps = s.room }
