@@ -8,7 +8,7 @@ use Rattle.std.proofs.lemmas.List.{length-map, get_or-map}
 use Rattle.std.proofs.lemmas.List.Edits.{length-insert, get_or-insert_at}
 use Rattle.table.specs.Keys.{Ascending}
 use Rattle.std.proofs.lemmas.Map.Keys.{below_from_sorted, sorted_tail}
-use Rattle.table.proofs.Standing.{nth_at}
+use Rattle.std.proofs.lemmas.Option.{slice_get_within, get_or_from_slice_get}
 use Rattle.lot.specs.Notes.{Note, stored}
 use Rattle.lot.specs.Book.{number_of, noted, struck, stands}
 use Rattle.lot.specs.declared.items.Item.{Item}
@@ -46,14 +46,13 @@ noted_at (m ∷ ms) n (suc i) within up =
 
 -- the entry of a number, taken out, is the number's note struck
 pub struck_at : (ns : List Note) (i : ℕ) (e : Item) → slice_get (map stored ns) i ≡ Some e → Rising (map stored ns) → remove (map stored ns) i ≡ map stored (struck e.number ns)
-struck_at [] i e at up = let here = nth_at [] i e at in absurd (omega (arith, here.0))
+struck_at [] i e at up = absurd (omega (arith, slice_get_within [] i e at))
 struck_at (m ∷ ms) zero e at up =
-    let here : number_of m ≡ e.number = ap (λ (x : Item). x.number) (nth_at (map stored (m ∷ ms)) zero e at).1 in
+    let here : number_of m ≡ e.number = ap (λ (x : Item). x.number) (get_or_from_slice_get (map stored (m ∷ ms)) zero e e at) in
     sym (ap (map stored) (cond-true (eqb (number_of m) e.number) ms (m ∷ struck e.number ms) (eq-eqb (number_of m) e.number here)))
 struck_at (m ∷ ms) (suc i) e at up =
-    let here = nth_at (map stored ms) i e at in
-    let less = first_less (stored m) (map stored ms) i e up here.0 in
-    let same = ap (λ (x : Item). x.number) here.1 in
+    let less = first_less (stored m) (map stored ms) i e up (slice_get_within (map stored ms) i e at) in
+    let same = ap (λ (x : Item). x.number) (get_or_from_slice_get (map stored ms) i e e at) in
     ap (λ es. stored m ∷ es) (struck_at ms i e at (tail_rises (stored m) (map stored ms) up))
     ∙ sym (ap (map stored) (cond-false (eqb (number_of m) e.number) ms (m ∷ struck e.number ms) (ne_eqb (number_of m) e.number (λ (q : number_of m ≡ e.number). omega arith))))
 

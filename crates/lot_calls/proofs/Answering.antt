@@ -2,7 +2,7 @@
 use Rattle.std.proofs.Common.{◌≡◌, ℕ, ◌+◌, ◌-◌, ◌<◌, ◌≤◌, Bool, true, not, ltb, List, [], ◌∷◌, map, length, get_or, ℤ, pos, nat_abs, Some, None, Ok, Err, Option, Result, sym, ap, ◌∙◌, subst, ⊎_elim, arith, w64, SFits}
 use Rattle.std.specs.List.{slice_get}
 use Rattle.std.proofs.lemmas.List.{length-map}
-use Rattle.std.proofs.lemmas.Option.{slice_get-get_or}
+use Rattle.std.proofs.lemmas.Option.{slice_get-get_or, slice_get_within}
 use Rattle.std.proofs.lemmas.Int.{ints}
 use Rattle.std.proofs.lemmas.Bool.{cases_lt, lt-ltb, le-ltb, and_parts}
 use Rattle.faults.specs.Faults.{direct, AnswersBy}
@@ -16,7 +16,6 @@ use Rattle.knowledge.specs.Knowledge.{Answers}
 use Rattle.judging.specs.Verdicts.{judged, judge_refusal}
 use Rattle.judging.specs.Guarantee.{JudgementHolds}
 use Rattle.judging.specs.declared.answers.Judgement.{Judgement}
-use Rattle.table.proofs.Standing.{nth_at}
 use Rattle.acceptance.specs.Guard.{is_expanded}
 use Rattle.table.specs.Places.{Stands}
 use Rattle.lot.specs.Book.{is_number, is_named, in_range, show_refusal, tally_refusal, room_refusal, judged_refusal, stands}
@@ -33,7 +32,7 @@ module _ (items : List Item) (place : ℕ) where
   Shown e = slice_get items place ≡ Some e
 
   pub shown : (e : Item) → slice_get items place ≡ Some e → AnswersBy (show_refusal (length items) place) (Ok e) Shown
-  shown e at = passed Shown (ltb place (length items)) NoPlace None (Ok e) (lt-ltb place (length items) (nth_at items place e at).0) at
+  shown e at = passed Shown (ltb place (length items)) NoPlace None (Ok e) (lt-ltb place (length items) (slice_get_within items place e at)) at
 
   past_all : (xs : List Item) → slice_get xs place ≡ None → length xs ≤ place
   past_all [] none = omega arith

@@ -12,7 +12,7 @@ use Rattle.requirement.specs.declared.requirements.Requirement.{Requirement}
 use Rattle.judging.specs.declared.answers.Judgement.{Judgement}
 use Rattle.judging.proofs.Order.{judged_holds}
 use Rattle.table.specs.Tables.{standing, capacity}
-use Rattle.table.proofs.Standing.{nth_at}
+use Rattle.std.proofs.lemmas.Option.{slice_get_within}
 use Rattle.lot.specs.Notes.{Note, Judgeable, stored, item_of, passing}
 use Rattle.lot.specs.Risks.{SumsHold}
 use Rattle.lot.specs.Rows.{row_of}
@@ -146,7 +146,7 @@ struck_carries l n r l' done places calls keeps =
 
 -- showing and telling a row change nothing
 nth_stored : (ns : List Note) (place : ℕ) (e : Item) → slice_get (map stored ns) place ≡ Some e → option_map stored (slice_get ns place) ≡ Some e
-nth_stored [] place e at = let here = nth_at [] place e at in absurd (omega (arith, here.0))
+nth_stored [] place e at = absurd (omega (arith, slice_get_within [] place e at))
 nth_stored (n ∷ ns) zero e at = at
 nth_stored (n ∷ ns) (suc place) e at = nth_stored ns place e at
 

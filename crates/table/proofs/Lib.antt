@@ -3,4 +3,3 @@ pub mod Ascents
 mod Finding
 mod Edits
 pub mod Standing
-pub mod Contents

@@ -1,23 +1,22 @@
 -- Keys that stand among entries, by what a search answers.
-use Rattle.std.proofs.Common.{◌≡◌, ℕ, ◌+◌, ◌<◌, List, [], ◌∷◌, length, get_or, Some, Ok, Err, Option, Result, Ordering, Less, sym, ap, ◌∙◌, subst, ⊎_elim, true≢false, arith}
+use Rattle.std.proofs.Common.{◌≡◌, ℕ, ◌+◌, ◌<◌, ◌≤◌, List, [], ◌∷◌, length, get_or, Some, Ok, Err, Option, Result, Ordering, Less, refl, sym, ap, ◌∙◌, subst, ⊎_elim, true≢false, arith}
 use Rattle.std.specs.List.{slice_get, remove, HoldsAt}
 use Rattle.std.specs.Cmp.{IsTotalOrder, tied_itself}
 use Rattle.std.specs.Ordering.{is_lt}
 use Rattle.std.specs.List.Sorted.{IsPartitionPoint, IsPermutation}
 use Rattle.std.proofs.lemmas.List.Edits.{length-remove, get_or-remove_below, get_or-remove_above}
 use Rattle.std.proofs.lemmas.List.{length-map, get_or-map, get_or_default}
-use Rattle.std.proofs.lemmas.Option.{slice_get-get_or, slice_get_past}
+use Rattle.std.proofs.lemmas.Option.{slice_get-get_or, slice_get_within, get_or_from_slice_get}
 use Rattle.std.proofs.ByRecursion.{has_shuffled}
 use Rattle.std.proofs.lemmas.Bool.{cases_lt}
-use Rattle.table.specs.Changes.{Picked}
+use Rattle.table.specs.declared.Table.{Table}
+use Rattle.table.specs.declared.Refused.{Refused}
+use Rattle.table.specs.declared.Refused.TheVariants.{Present, Full}
+use Rattle.table.specs.Tables.{standing, capacity}
+use Rattle.table.specs.Changes.{Allowed, Picked}
 use Rattle.table.specs.Keys.{Ascending}
 use Rattle.table.specs.Places.{Found, Known, Stands}
 use Rattle.table.proofs.Ascents.{ascends}
-
--- an entry that stands at i
-pub nth_at : {E : Type 0} (xs : List E) (i : ℕ) (e : E) → slice_get xs i ≡ Some e → (i < length xs) × (get_or xs i e ≡ e)
-nth_at xs i e at =
-    ⊎_elim (λ within. let read = slice_get-get_or xs i e within in (within, cc)) (λ past. let none = slice_get_past xs i past in absurd (let z : ◌≡◌ {A = ℕ} 0 1 = cc in omega arith)) (cases_lt i (length xs))
 
 -- no key is less than itself
 pub not_less : {K : Type 0} {compare : K → K → Ordering} → IsTotalOrder compare → (k : K) → compare k k ≡ Less → ⊥
@@ -81,11 +80,16 @@ module _ {E K : Type 0} (key : E → K) {compare : K → K → Ordering} (total 
   stands_removed i e at stands =
       let place = stands_place key (key e) (remove xs i) stands in
       let j = place.0 in
-      let here = nth_at xs i e at in
-      let within = here.0 in
+      let within = slice_get_within xs i e at in
       let size = length-remove xs i within in
-      let same = ap key here.1 in
+      let same = ap key (get_or_from_slice_get xs i e e at) in
       ⊎_elim
       (λ before. let one = one_place j i e (omega arith) within (ap key (sym (get_or-remove_below xs i e j before within)) ∙ place.2 e ∙ sym same) in omega arith)
       (λ after. let one = one_place (j + 1) i e (omega arith) within (ap key (sym (get_or-remove_above xs i e j after within)) ∙ place.2 e ∙ sym same) in omega arith)
       (cases_lt j i)
+
+-- with no place every insertion is refused as full
+pub full_without_place : {E K : Type 0} {entry ord eq partial : _} (key : E → K) (t : Table E K entry ord eq partial) (k : K) (r : Result ℕ Refused) → capacity t ≡ 0 → length (standing t) ≤ capacity t → Allowed key t k r → r ≡ Err Full
+full_without_place key t k (Ok i) none within allowed = absurd (omega (arith, allowed.1))
+full_without_place key t k (Err Present) none within allowed = absurd (omega (arith, allowed.1, length-map (standing t) key))
+full_without_place key t k (Err Full) none within allowed = refl
