@@ -1,10 +1,9 @@
 // One field from the front of a text.
-ghost use Rattle.std.specs.Prelude.{◌≡◌, ℕ, ◌≤◌, List, ◌∷◌, length, take, drop, Decides, MatchBool, MatchResult};
+ghost use Rattle.std.specs.Prelude.{◌≡◌, ℕ, ◌≤◌, List, ◌∷◌, length, take, drop, Decides, MatchResult};
 ghost use Rattle.text.specs.Fronts.{form, Ended, Leads};
 ghost use Rattle.text.specs.Grammar.{LF, IsField, spelling};
 ghost use Rattle.text.specs.Machine.{SoFar, Complete};
 ghost use Rattle.text.specs.Offences.{Offence};
-ghost use Rattle.text.specs.declared.machine.State.TheVariants.{Quoted};
 
 use crate::field::Field;
 use crate::machine::{Effect, Ending, State, step};
