@@ -53,7 +53,7 @@ impl GuardBand {
     }
 
     // The tolerance limits moved inwards by the width.
-    pub fn narrowed(self, tolerance: &Tolerance) -> Acceptance
+    pub(crate) fn narrowed(self, tolerance: &Tolerance) -> Acceptance
         ensures { result ≡ guarded tolerance.now.lower tolerance.now.upper self.width }
     {
         Acceptance {
