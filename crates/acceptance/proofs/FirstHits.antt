@@ -1,9 +1,8 @@
 -- The least number that passes a test, and what the rules of the answers say of the tests on shares.
-use Rattle.std.proofs.Common.{◌≡◌, ℕ, zero, suc, ◌-◌, ◌<◌, ◌≤◌, Bool, true, false, ◌≤ℤ◌, Some, None, Option, sym, refl, ◌∙◌, subst, ⊎_elim, not-suc-le-zero, arith, MatchOption}
+use Rattle.std.proofs.Common.{◌≡◌, ℕ, zero, suc, ◌<◌, ◌≤◌, Bool, true, false, Some, None, Option, sym, refl, subst, ⊎_elim, not-suc-le-zero, arith, MatchOption}
 use Rattle.std.proofs.lemmas.Int.{ints}
 use Rattle.std.proofs.lemmas.Bool.{cases_eq, cases_Bool}
 use Rattle.std.proofs.lemmas.Bool.Decides.{nat_tests}
-use Rattle.knowledge.specs.Millionths.{million}
 use Rattle.knowledge.specs.Knowledge.{Answers, Rules}
 use Rattle.acceptance.specs.Search.{or_else, first_below, offset_at, keeps_share}
 use Rattle.acceptance.specs.declared.search.Side.{Side}
