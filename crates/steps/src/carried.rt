@@ -1,12 +1,13 @@
 // The steps from a requirement to a verdict, each printed as it is taken.
 use crate::stops::Stop;
-use crate::words::{Decision, Limit, word};
+use crate::words::Decision;
 use acceptance::{Acceptance, limits};
 use faults::Fault;
-use judging::{Judgement, bracket, judge};
+use judging::{Bracket, Judgement, bracket, judge};
 use knowledge::Knowledge;
 use requirement::{Requirement, RequirementRow};
-use std::fmt;
+use std::{fmt, io};
+use trials::Limit;
 
 // A reading, with what is required of it and the expanded uncertainty of its measurement.
 #[derive(Clone, Copy)]
@@ -18,65 +19,65 @@ pub struct Case {
 
 // What is known of the probability up to one limit.
 fn show_limit<K: Knowledge>(
-    rt: &HostRuntime,
+    rt: &impl Print,
     name: &str,
     limit: Option<i64>,
     reading: i64,
     knowledge: &K,
-) -> Result<(), Stop> {
+) -> io::Result<()> {
     let Some(limit) = limit else {
-        println!(rt; "   no {name} limit")?;
-        return Ok(());
+        return println!(rt; "   no {name} limit");
     };
     // a reading out of range is refused when its bracket is asked for
     let offset = limit.saturating_sub(reading);
     let (floor, ceiling) = knowledge.at_most(offset);
     println!(rt;
         "   {name} limit at offset {offset}: {floor} to {ceiling} millionths lie at or below it"
-    )?;
-    Ok(())
+    )
 }
 
-fn show_requirement(rt: &HostRuntime, case: &Case) -> Result<(), Stop> {
-    let (lower, upper) = (Limit(case.row.lower), Limit(case.row.upper));
-    let decision = Decision(case.row);
-    println!(rt; "   required: {lower} to {upper}, {decision}")?;
-    let (reading, expanded) = (case.reading, case.expanded);
-    println!(rt; "   reading: {reading}, expanded uncertainty {expanded}")?;
-    Ok(())
+fn show_case(rt: &impl Print, case: &Case) -> io::Result<()> {
+    let Case {
+        row,
+        expanded,
+        reading,
+    } = *case;
+    println!(rt;
+        "   required: {} to {}, {}",
+        Limit(row.lower),
+        Limit(row.upper),
+        Decision(row)
+    )?;
+    println!(rt; "   reading: {reading}, expanded uncertainty {expanded}")
 }
 
 // Carries one reading through, step by step.
-pub fn carry<K: Knowledge>(rt: &HostRuntime, case: &Case, knowledge: &K) -> Result<(), Stop> {
+pub fn carry<K: Knowledge>(rt: &impl Print, case: &Case, knowledge: &K) -> Result<(), Stop> {
     let requirement = Requirement::new(&case.row)?;
-    show_requirement(rt, case)?;
+    show_case(rt, case)?;
     let tolerance = requirement.tolerance();
     show_limit(rt, "lower", tolerance.lower(), case.reading, knowledge)?;
     show_limit(rt, "upper", tolerance.upper(), case.reading, knowledge)?;
-    let known = bracket(&requirement, case.reading, knowledge)?;
-    let (floor, ceiling) = (known.floor, known.ceiling);
+    let Bracket { floor, ceiling } = bracket(&requirement, case.reading, knowledge)?;
     println!(rt; "   bracket: conforming has a probability of {floor} to {ceiling} millionths")?;
-    let accepted = limits(&requirement, case.expanded, knowledge)?;
-    let (lower, upper) = (Limit(accepted.lower), Limit(accepted.upper));
-    println!(rt; "   acceptance limits: {lower} to {upper}")?;
+    let Acceptance { lower, upper } = limits(&requirement, case.expanded, knowledge)?;
+    println!(rt;
+        "   acceptance limits: {} to {}",
+        Limit(lower),
+        Limit(upper)
+    )?;
     let judgement = judge(&requirement, case.expanded, case.reading, knowledge)?;
-    let verdict = word(judgement.verdict);
-    println!(rt; "   verdict: {verdict}")?;
+    println!(rt; "   verdict: {}", judgement.verdict)?;
     Ok(())
 }
 
 // Judges one reading by one requirement, in a line; a refusal is printed with its number.
-pub fn decide<K: Knowledge>(rt: &HostRuntime, case: &Case, knowledge: &K) -> Result<(), Stop> {
+pub fn decide<K: Knowledge>(rt: &impl Print, case: &Case, knowledge: &K) -> io::Result<()> {
     let decision = Decision(case.row);
-    print!(rt; "   {decision}: ")?;
     match outcome_of(case, knowledge) {
-        Ok(outcome) => println!(rt; "{outcome}")?,
-        Err(fault) => {
-            let number = fault.refusal.number();
-            println!(rt; "refused with {number}")?;
-        }
+        Ok(outcome) => println!(rt; "   {decision}: {outcome}"),
+        Err(fault) => println!(rt; "   {decision}: {}", Stop::Refused(fault)),
     }
-    Ok(())
 }
 
 // What judging one reading gives.
@@ -88,14 +89,16 @@ struct Outcome {
 
 impl fmt::Display for Outcome {
     fn fmt<W: fmt::Write>(&self, f: &mut fmt::Formatter<W>) -> fmt::Result {
-        let lower = Limit(self.accepted.lower);
-        let upper = Limit(self.accepted.upper);
-        let floor = self.judgement.bracket.floor;
-        let ceiling = self.judgement.bracket.ceiling;
-        let verdict = word(self.judgement.verdict);
+        let Acceptance { lower, upper } = self.accepted;
+        let Judgement {
+            verdict,
+            bracket: Bracket { floor, ceiling },
+        } = self.judgement;
         write!(
             f,
-            "accepted from {lower} to {upper}, bracket {floor} to {ceiling}, verdict {verdict}"
+            "accepted from {} to {}, bracket {floor} to {ceiling}, verdict {verdict}",
+            Limit(lower),
+            Limit(upper)
         )
     }
 }
