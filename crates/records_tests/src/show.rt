@@ -5,7 +5,7 @@ use records::{Entry, ItemRow, entry};
 use requirement::RequirementRow;
 use std::fmt;
 use text::{Placed, Reader};
-use trials::{Limit, Numbers};
+use trials::{Answer, Limit, Numbers};
 
 // How many places the list of fields has: one more than any record needs.
 const PLACES: usize = 10;
@@ -72,21 +72,21 @@ impl fmt::Display for ShownItem {
     }
 }
 
-// What is made of one record: the number of the record, and its fields.
+// A typed record.
 #[derive(Clone, Copy)]
-struct Shown<'a>(u32, &'a [Placed<'a>]);
+struct Typed(Entry);
 
-impl fmt::Display for Shown<'_> {
+impl fmt::Display for Typed {
     fn fmt<W: fmt::Write>(&self, f: &mut fmt::Formatter<W>) -> fmt::Result {
-        match entry(self.0, self.1) {
-            Ok(Entry::Requirement(row)) => write!(f, "{}", ShownRequirement(row)),
-            Ok(Entry::Item(row)) => write!(f, "{}", ShownItem(row)),
-            Err(fault) => write!(f, "{}", Numbers(fault)),
+        match self.0 {
+            Entry::Requirement(row) => write!(f, "{}", ShownRequirement(row)),
+            Entry::Item(row) => write!(f, "{}", ShownItem(row)),
         }
     }
 }
 
-// The records of a text, up to its end or the text's fault.
+// The records of a text, up to its end or the text's fault. The loop stands in text_tests too, over another list and another form of a
+// record: a shared one would need a trait for these two, longer than the loop.
 #[derive(Clone, Copy)]
 pub struct Records<'a>(pub &'a [u8]);
 
@@ -98,7 +98,8 @@ impl fmt::Display for Records<'_> {
             match reader.next_record(&mut list) {
                 Ok(Some(read)) => {
                     let held = list.get(..read.count as usize).unwrap_or(&list);
-                    write!(f, "{}", Shown(read.number, held))?;
+                    let typed = entry(read.number, held).map(Typed);
+                    write!(f, "{}", Answer(typed))?;
                 }
                 Ok(None) => return Ok(()),
                 Err(fault) => return write!(f, "{}", Numbers(fault)),

@@ -1,9 +1,8 @@
 // Records and values as text.
-use faults::Fault;
 use fields::{letter, limit, number, says};
 use std::fmt;
 use text::{Field, Placed, Reader, Record};
-use trials::{Limit, Numbers};
+use trials::{Answer, Limit, Numbers};
 
 // How many places the list of fields has: fewer than some records have fields.
 const PLACES: usize = 3;
@@ -67,19 +66,6 @@ impl fmt::Display for Records<'_> {
     }
 }
 
-// What is read of a field: a value, or a fault by its numbers.
-#[derive(Drop)]
-struct Answer<T>(Result<T, Fault>);
-
-impl<T: fmt::Display> fmt::Display for Answer<T> {
-    fn fmt<W: fmt::Write>(&self, f: &mut fmt::Formatter<W>) -> fmt::Result {
-        match &self.0 {
-            Ok(value) => write!(f, "{value}"),
-            Err(fault) => write!(f, "{}", Numbers(*fault)),
-        }
-    }
-}
-
 // The first field of a text as a number, as a limit, as a letter, and whether it says REQ and a quote.
 #[derive(Clone, Copy)]
 pub struct Values<'a>(pub &'a [u8]);
@@ -95,8 +81,8 @@ impl fmt::Display for Values<'_> {
             f,
             "{} {} {} {} {}",
             Answer(number(placed)),
-            Answer(limit(placed).map(|value| Limit(value))),
-            Answer(letter(placed).map(|value| u32::from(value))),
+            Answer(limit(placed).map(Limit)),
+            Answer(letter(placed).map(u32::from)),
             says(placed, b"REQ"),
             says(placed, b"\"")
         )

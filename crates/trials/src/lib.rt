@@ -8,7 +8,7 @@ ghost use Rattle.trials.specs.Refused.{number_of};
 mod shown;
 
 use faults::Fault;
-pub use shown::{Limit, Numbers};
+pub use shown::{Answer, Limit, Numbers};
 use std::alloc::{AllocError, Global};
 
 // The number of a refusal, if the call was refused.

@@ -1,6 +1,6 @@
-// How limits and faults are written.
+// How limits, faults and answers are written.
 ghost use Rattle.std.specs.Prelude.{Some};
-ghost use Rattle.trials.specs.Shown.{limit_text, fault_text};
+ghost use Rattle.trials.specs.Shown.{limit_text, fault_text, answer_text};
 
 use faults::Fault;
 use std::fmt;
@@ -34,5 +34,20 @@ impl fmt::Display for Numbers {
             field,
         } = self.0;
         write!(f, "!{},{record},{field}", refusal.number())
+    }
+}
+
+// What a call answers: its value, or its fault by its numbers.
+#[derive(Drop)]
+pub struct Answer<T>(pub Result<T, Fault>);
+
+impl<T: fmt::Display> fmt::Display for Answer<T> {
+    ghost output = { λ answer. answer_text T.output answer.0 };
+
+    fn fmt<W: fmt::Write>(&self, f: &mut fmt::Formatter<W>) -> fmt::Result {
+        match &self.0 {
+            Ok(value) => write!(f, "{value}"),
+            Err(fault) => write!(f, "{}", Numbers(*fault)),
+        }
     }
 }
