@@ -36,50 +36,6 @@ fn show_limit<K: Knowledge>(
     )
 }
 
-fn show_case(rt: &impl Print, case: &Case) -> io::Result<()> {
-    let Case {
-        row,
-        expanded,
-        reading,
-    } = *case;
-    println!(rt;
-        "   required: {} to {}, {}",
-        Limit(row.lower),
-        Limit(row.upper),
-        Decision(row)
-    )?;
-    println!(rt; "   reading: {reading}, expanded uncertainty {expanded}")
-}
-
-// Carries one reading through, step by step.
-pub fn carry<K: Knowledge>(rt: &impl Print, case: &Case, knowledge: &K) -> Result<(), Stop> {
-    let requirement = Requirement::new(&case.row)?;
-    show_case(rt, case)?;
-    let tolerance = requirement.tolerance();
-    show_limit(rt, "lower", tolerance.lower(), case.reading, knowledge)?;
-    show_limit(rt, "upper", tolerance.upper(), case.reading, knowledge)?;
-    let Bracket { floor, ceiling } = bracket(&requirement, case.reading, knowledge)?;
-    println!(rt; "   bracket: conforming has a probability of {floor} to {ceiling} millionths")?;
-    let Acceptance { lower, upper } = limits(&requirement, case.expanded, knowledge)?;
-    println!(rt;
-        "   acceptance limits: {} to {}",
-        Limit(lower),
-        Limit(upper)
-    )?;
-    let judgement = judge(&requirement, case.expanded, case.reading, knowledge)?;
-    println!(rt; "   verdict: {}", judgement.verdict)?;
-    Ok(())
-}
-
-// Judges one reading by one requirement, in a line; a refusal is printed with its number.
-pub fn decide<K: Knowledge>(rt: &impl Print, case: &Case, knowledge: &K) -> io::Result<()> {
-    let decision = Decision(case.row);
-    match outcome_of(case, knowledge) {
-        Ok(outcome) => println!(rt; "   {decision}: {outcome}"),
-        Err(fault) => println!(rt; "   {decision}: {}", Stop::Refused(fault)),
-    }
-}
-
 // What judging one reading gives.
 #[derive(Clone, Copy)]
 struct Outcome {
@@ -103,12 +59,60 @@ impl fmt::Display for Outcome {
     }
 }
 
-fn outcome_of<K: Knowledge>(case: &Case, knowledge: &K) -> Result<Outcome, Fault> {
-    let requirement = Requirement::new(&case.row)?;
-    let accepted = limits(&requirement, case.expanded, knowledge)?;
-    let judgement = judge(&requirement, case.expanded, case.reading, knowledge)?;
-    Ok(Outcome {
-        accepted,
-        judgement,
-    })
+impl Case {
+    fn show(&self, rt: &impl Print) -> io::Result<()> {
+        let Case {
+            row,
+            expanded,
+            reading,
+        } = *self;
+        println!(rt;
+            "   required: {} to {}, {}",
+            Limit(row.lower),
+            Limit(row.upper),
+            Decision(row)
+        )?;
+        println!(rt; "   reading: {reading}, expanded uncertainty {expanded}")
+    }
+
+    // Carries the reading through, step by step.
+    pub fn carry<K: Knowledge>(&self, rt: &impl Print, knowledge: &K) -> Result<(), Stop> {
+        let requirement = Requirement::new(&self.row)?;
+        self.show(rt)?;
+        let tolerance = requirement.tolerance();
+        show_limit(rt, "lower", tolerance.lower(), self.reading, knowledge)?;
+        show_limit(rt, "upper", tolerance.upper(), self.reading, knowledge)?;
+        let Bracket { floor, ceiling } = bracket(&requirement, self.reading, knowledge)?;
+        println!(rt;
+            "   bracket: conforming has a probability of {floor} to {ceiling} millionths"
+        )?;
+        let Acceptance { lower, upper } = limits(&requirement, self.expanded, knowledge)?;
+        println!(rt;
+            "   acceptance limits: {} to {}",
+            Limit(lower),
+            Limit(upper)
+        )?;
+        let judgement = judge(&requirement, self.expanded, self.reading, knowledge)?;
+        println!(rt; "   verdict: {}", judgement.verdict)?;
+        Ok(())
+    }
+
+    fn outcome<K: Knowledge>(&self, knowledge: &K) -> Result<Outcome, Fault> {
+        let requirement = Requirement::new(&self.row)?;
+        let accepted = limits(&requirement, self.expanded, knowledge)?;
+        let judgement = judge(&requirement, self.expanded, self.reading, knowledge)?;
+        Ok(Outcome {
+            accepted,
+            judgement,
+        })
+    }
+
+    // Judges the reading, in a line; a refusal is printed with its number.
+    pub fn decide<K: Knowledge>(&self, rt: &impl Print, knowledge: &K) -> io::Result<()> {
+        let decision = Decision(self.row);
+        match self.outcome(knowledge) {
+            Ok(outcome) => println!(rt; "   {decision}: {outcome}"),
+            Err(fault) => println!(rt; "   {decision}: {}", Stop::Refused(fault)),
+        }
+    }
 }

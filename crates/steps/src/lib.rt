@@ -6,7 +6,7 @@ mod stops;
 mod words;
 
 use bias::{Biased, check_bias};
-use carried::{Case, carry, decide};
+use carried::Case;
 use figures::{figures_held, greatest_passing_grade};
 use judging::{Bracket, Judgement};
 use normal::Normal;
@@ -49,7 +49,7 @@ fn within_half_width(rt: &impl Print) -> Result<(), Stop> {
     println!(rt;
         "1. A grade whose error is at most 100 steps either way, each part as likely as any other"
     )?;
-    carry(rt, &GRADED, &Rectangular::new(100)?)
+    GRADED.carry(rt, &Rectangular::new(100)?)
 }
 
 // The same grade, its error normal, by an instrument that reads 20 steps too high.
@@ -59,7 +59,7 @@ fn normal_with_bias(rt: &impl Print) -> Result<(), Stop> {
     )?;
     check_bias(20)?;
     let knowledge = Biased::new(Normal::new(58)?, 20);
-    carry(rt, &GRADED, &knowledge)
+    GRADED.carry(rt, &knowledge)
 }
 
 // One reading under every rule, with standard uncertainty 40; the last shares are smaller than what is known can promise.
@@ -80,7 +80,7 @@ fn under_each_rule(rt: &impl Print, reading: i64) -> Result<(), Stop> {
             expanded: 80,
             reading,
         };
-        decide(rt, &case, &knowledge)?;
+        case.decide(rt, &knowledge)?;
     }
     Ok(())
 }

@@ -18,7 +18,7 @@ pub fn refused<T: Drop>(answer: Result<T, Fault>) -> Option<u8>
     answer.err().map(|fault| fault.refusal.number())
 }
 
-// The text that a case stands for, which keeps long texts short: three bytes are a number, the others begin the text, and so many commas end it.
+// The text of a case: three bytes are a number, the others begin the text, and so many commas end it, which keeps cases of long texts short.
 pub fn with_commas(heap: Global, case: &[u8]) -> Result<Vec<u8>, AllocError>
     ensures { IfOk result (λ text. text.items ≡ with_commas case.now) }
 {
