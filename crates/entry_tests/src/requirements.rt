@@ -41,5 +41,6 @@ fn requirements(lower: i64) -> Result<[Requirement; 7], Fault> {
 #[test]
 fn requirements_by_class_and_characteristic(rt: HostRuntime) -> Result<(), Fail> {
     let mut places = [requirement(7, 7, 0)?; 5];
-    fill_empty_refill(&rt, &mut places, &requirements(-40)?, &requirements(70)?)
+    fill_empty_refill(&rt, &mut places, &requirements(-40)?, &requirements(70)?);
+    Ok(())
 }

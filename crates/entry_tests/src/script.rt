@@ -1,6 +1,5 @@
 // Calls on a table of five places, with the answers that are due.
 use std::process::Abort;
-use std::test::Fail;
 use table::{Entry, Refused, Table};
 
 // What tells one entry from another: its key as a number, and a value that it carries.
@@ -8,192 +7,103 @@ pub trait Shown: Entry {
     fn shown(&self) -> (u32, i64);
 }
 
-// The entries of a script, in the order of their keys.
-const A: usize = 0;
-
-const B: usize = 1;
-
-const C: usize = 2;
-
-const D: usize = 3;
-
-const E: usize = 4;
-
-const F: usize = 5;
-
-const G: usize = 6;
-
-// What is due of a table.
-#[derive(Clone, Copy)]
-enum Step {
-    // inserting the entry answers this place
-    Enters(usize, usize),
-    Refuses(usize, Refused),
-    Removes(usize),
-    Finds(usize),
-    // neither looking the entry up nor removing it finds one
-    Lacks(usize),
-    // at the place stands the entry
-    At(usize, usize),
-    Vacant(usize),
-    Counts(usize),
-}
-
 fn told<X: Shown>(entry: Option<X>) -> Option<(u32, i64)> {
-    match entry {
-        Some(entry) => Some(entry.shown()),
-        None => None,
+    entry.map(|entry| entry.shown())
+}
+
+// Looking each of the entries up finds it.
+fn check_found<X: Shown>(rt: &impl Abort, table: &Table<X>, entries: &[X]) {
+    for entry in entries {
+        assert_eq!(rt; told(table.lookup(entry.key())), Some(entry.shown()));
     }
 }
 
-fn named<X: Shown>(entries: &[X], name: usize) -> Result<X, Fail> {
-    match entries.get(name) {
-        Some(entry) => Ok(*entry),
-        None => Err(Fail::new("a script names an entry that is not there")),
-    }
+// Neither looking the entry up nor removing it finds one.
+fn check_lacking<X: Shown>(rt: &impl Abort, table: &mut Table<X>, entry: X) {
+    assert_eq!(rt; told(table.lookup(entry.key())), None);
+    assert_eq!(rt; told(table.remove(entry.key())), None);
 }
 
-fn play_one<X: Shown>(
-    rt: &impl Abort,
-    table: &mut Table<X>,
-    entries: &[X],
-    step: Step,
-) -> Result<(), Fail> {
-    match step {
-        Step::Enters(name, place) => {
-            assert_eq!(rt; table.insert(named(entries, name)?), Ok(place));
-            Ok(())
-        }
-        Step::Refuses(name, why) => {
-            assert_eq!(rt; table.insert(named(entries, name)?), Err(why));
-            Ok(())
-        }
-        Step::Removes(name) => {
-            let entry = named(entries, name)?;
-            assert_eq!(rt; told(table.remove(entry.key())), Some(entry.shown()));
-            Ok(())
-        }
-        Step::Finds(name) => {
-            let entry = named(entries, name)?;
-            assert_eq!(rt; told(table.lookup(entry.key())), Some(entry.shown()));
-            Ok(())
-        }
-        Step::Lacks(name) => {
-            let key = named(entries, name)?.key();
-            assert_eq!(rt; told(table.lookup(key)), None);
-            assert_eq!(rt; told(table.remove(key)), None);
-            Ok(())
-        }
-        Step::At(place, name) => {
-            let entry = named(entries, name)?;
-            assert_eq!(rt; told(table.at(place)), Some(entry.shown()));
-            Ok(())
-        }
-        Step::Vacant(place) => {
-            assert_eq!(rt; told(table.at(place)), None);
-            Ok(())
-        }
-        Step::Counts(count) => {
-            assert_eq!(rt; table.len(), count);
-            Ok(())
-        }
+// These entries stand in this order, and no other.
+fn check_order<X: Shown>(rt: &impl Abort, table: &Table<X>, entries: &[X]) {
+    for (place, entry) in entries.iter().enumerate() {
+        assert_eq!(rt; told(table.at(place)), Some(entry.shown()));
     }
+    assert_eq!(rt; told(table.at(entries.len())), None);
 }
 
-fn play<X: Shown>(
-    rt: &impl Abort,
-    table: &mut Table<X>,
-    entries: &[X],
-    steps: &[Step],
-) -> Result<(), Fail> {
-    for step in steps {
-        play_one(rt, table, entries, *step)?;
-    }
-    Ok(())
+fn check_removed<X: Shown>(rt: &impl Abort, table: &mut Table<X>, entry: X) {
+    assert_eq!(rt; told(table.remove(entry.key())), Some(entry.shown()));
 }
 
 // Fills the table out of order; a key that stands is refused before a sixth entry is.
-fn filled() -> [Step; 12] {
-    [
-        Step::Enters(D, 0),
-        Step::Enters(A, 0),
-        Step::Enters(E, 2),
-        Step::Enters(C, 1),
-        Step::Refuses(C, Refused::Present),
-        Step::Counts(4),
-        Step::Enters(B, 1),
-        Step::Counts(5),
-        Step::Refuses(E, Refused::Present),
-        Step::Refuses(F, Refused::Full),
-        Step::Refuses(G, Refused::Full),
-        Step::Counts(5),
-    ]
+fn fill<X: Shown>(rt: &impl Abort, table: &mut Table<X>, entries: &[X; 7]) {
+    let [a, b, c, d, e, f, g] = *entries;
+    assert_eq!(rt; table.insert(d), Ok(0));
+    assert_eq!(rt; table.insert(a), Ok(0));
+    assert_eq!(rt; table.insert(e), Ok(2));
+    assert_eq!(rt; table.insert(c), Ok(1));
+    assert_eq!(rt; table.insert(c), Err(Refused::Present));
+    assert_eq!(rt; table.len(), 4);
+    assert_eq!(rt; table.insert(b), Ok(1));
+    assert_eq!(rt; table.len(), 5);
+    assert_eq!(rt; table.insert(e), Err(Refused::Present));
+    assert_eq!(rt; table.insert(f), Err(Refused::Full));
+    assert_eq!(rt; table.insert(g), Err(Refused::Full));
+    assert_eq!(rt; table.len(), 5);
 }
 
 // Five entries stand in this order, and a sixth does not.
-fn standing(five: [usize; 5], absent: usize) -> [Step; 12] {
-    [
-        Step::At(0, five[0]),
-        Step::At(1, five[1]),
-        Step::At(2, five[2]),
-        Step::At(3, five[3]),
-        Step::At(4, five[4]),
-        Step::Vacant(5),
-        Step::Finds(five[0]),
-        Step::Finds(five[1]),
-        Step::Finds(five[2]),
-        Step::Finds(five[3]),
-        Step::Finds(five[4]),
-        Step::Lacks(absent),
-    ]
+fn check_standing<X: Shown>(rt: &impl Abort, table: &mut Table<X>, five: [X; 5], absent: X) {
+    check_order(rt, table, &five);
+    check_found(rt, table, &five);
+    check_lacking(rt, table, absent);
 }
 
 // Removes the five in another order, looking at the rest between.
-fn emptied() -> [Step; 13] {
-    [
-        Step::Removes(C),
-        Step::Removes(A),
-        Step::Removes(E),
-        Step::Counts(2),
-        Step::At(0, B),
-        Step::At(1, D),
-        Step::Vacant(2),
-        Step::Lacks(C),
-        Step::Removes(B),
-        Step::Finds(D),
-        Step::Removes(D),
-        Step::Counts(0),
-        Step::Vacant(0),
-    ]
+fn empty<X: Shown>(rt: &impl Abort, table: &mut Table<X>, entries: &[X; 7]) {
+    let [a, b, c, d, e, _, _] = *entries;
+    check_removed(rt, table, c);
+    check_removed(rt, table, a);
+    check_removed(rt, table, e);
+    assert_eq!(rt; table.len(), 2);
+    check_order(rt, table, &[b, d]);
+    check_lacking(rt, table, c);
+    check_removed(rt, table, b);
+    check_found(rt, table, &[d]);
+    check_removed(rt, table, d);
+    assert_eq!(rt; table.len(), 0);
+    check_order(rt, table, &[]);
 }
 
 // Fills the empty table anew.
-fn refilled() -> [Step; 9] {
-    [
-        Step::Enters(G, 0),
-        Step::Enters(B, 0),
-        Step::Enters(F, 1),
-        Step::Enters(D, 1),
-        Step::Refuses(B, Refused::Present),
-        Step::Enters(A, 0),
-        Step::Refuses(C, Refused::Full),
-        Step::Refuses(G, Refused::Present),
-        Step::Counts(5),
-    ]
+fn refill<X: Shown>(rt: &impl Abort, table: &mut Table<X>, others: &[X; 7]) {
+    let [a, b, c, d, _, f, g] = *others;
+    assert_eq!(rt; table.insert(g), Ok(0));
+    assert_eq!(rt; table.insert(b), Ok(0));
+    assert_eq!(rt; table.insert(f), Ok(1));
+    assert_eq!(rt; table.insert(d), Ok(1));
+    assert_eq!(rt; table.insert(b), Err(Refused::Present));
+    assert_eq!(rt; table.insert(a), Ok(0));
+    assert_eq!(rt; table.insert(c), Err(Refused::Full));
+    assert_eq!(rt; table.insert(g), Err(Refused::Present));
+    assert_eq!(rt; table.len(), 5);
 }
 
 // Fills, empties and refills a table over five places. The entries' keys ascend; the others have the same keys and carry other values.
 pub fn fill_empty_refill<X: Shown>(
     rt: &impl Abort,
     places: &mut [X],
-    entries: &[X],
-    others: &[X],
-) -> Result<(), Fail> {
+    entries: &[X; 7],
+    others: &[X; 7],
+) {
     let mut table = Table::new(places, 5);
     assert_eq!(rt; table.capacity(), 5);
-    play(rt, &mut table, entries, &filled())?;
-    play(rt, &mut table, entries, &standing([A, B, C, D, E], F))?;
-    play(rt, &mut table, entries, &emptied())?;
-    play(rt, &mut table, others, &refilled())?;
-    play(rt, &mut table, others, &standing([A, B, D, F, G], C))
+    fill(rt, &mut table, entries);
+    let [a, b, c, d, e, f, _] = *entries;
+    check_standing(rt, &mut table, [a, b, c, d, e], f);
+    empty(rt, &mut table, entries);
+    refill(rt, &mut table, others);
+    let [a, b, c, d, _, f, g] = *others;
+    check_standing(rt, &mut table, [a, b, d, f, g], c);
 }

@@ -1,16 +1,8 @@
 // The requirement sheet.
 use crate::requirements::requirement;
-use faults::Fault;
 use sheet::{Sheet, check_places};
 use std::test::Fail;
-
-// The number of a refusal, 0 where there is none.
-fn number(answer: Result<(), Fault>) -> u8 {
-    match answer {
-        Ok(()) => 0,
-        Err(fault) => fault.refusal.number(),
-    }
-}
+use trials::refused;
 
 // The limit of what the sheet finds.
 fn limit(sheet: &Sheet<'_>, class: u8, characteristic: u8) -> Option<i64> {
@@ -23,13 +15,13 @@ fn added_and_found(rt: HostRuntime) -> Result<(), Fail> {
     let mut places = [requirement(9, 9, 0)?; 3];
     let mut sheet = Sheet::new(&mut places);
     assert_eq!(rt; sheet.len(), 0);
-    assert_eq!(rt; number(sheet.add(requirement(2, 3, 10)?)), 0);
-    assert_eq!(rt; number(sheet.add(requirement(2, 3, 11)?)), 23);
-    assert_eq!(rt; number(sheet.add(requirement(3, 2, 20)?)), 0);
-    assert_eq!(rt; number(sheet.add(requirement(1, 20, 30)?)), 0);
+    assert_eq!(rt; refused(sheet.add(requirement(2, 3, 10)?)), None);
+    assert_eq!(rt; refused(sheet.add(requirement(2, 3, 11)?)), Some(23));
+    assert_eq!(rt; refused(sheet.add(requirement(3, 2, 20)?)), None);
+    assert_eq!(rt; refused(sheet.add(requirement(1, 20, 30)?)), None);
     assert_eq!(rt; sheet.len(), 3);
-    assert_eq!(rt; number(sheet.add(requirement(1, 20, 31)?)), 23);
-    assert_eq!(rt; number(sheet.add(requirement(1, 1, 40)?)), 24);
+    assert_eq!(rt; refused(sheet.add(requirement(1, 20, 31)?)), Some(23));
+    assert_eq!(rt; refused(sheet.add(requirement(1, 1, 40)?)), Some(24));
     assert_eq!(rt; sheet.len(), 3);
     assert_eq!(rt; limit(&sheet, 1, 20), Some(30));
     assert_eq!(rt; limit(&sheet, 2, 3), Some(10));
@@ -40,12 +32,12 @@ fn added_and_found(rt: HostRuntime) -> Result<(), Fail> {
 
 #[test]
 fn longest_list(rt: HostRuntime) -> Result<(), Fail> {
-    assert_eq!(rt; number(check_places(0)), 0);
-    assert_eq!(rt; number(check_places(10_000)), 0);
-    assert_eq!(rt; number(check_places(10_001)), 12);
+    assert_eq!(rt; refused(check_places(0)), None);
+    assert_eq!(rt; refused(check_places(10_000)), None);
+    assert_eq!(rt; refused(check_places(10_001)), Some(12));
     let mut places = [requirement(9, 9, 0)?; 10_000];
     let mut sheet = Sheet::new(&mut places);
-    assert_eq!(rt; number(sheet.add(requirement(2, 3, 10)?)), 0);
+    assert_eq!(rt; refused(sheet.add(requirement(2, 3, 10)?)), None);
     assert_eq!(rt; sheet.len(), 1);
     Ok(())
 }
@@ -55,7 +47,7 @@ fn longest_list(rt: HostRuntime) -> Result<(), Fail> {
 fn too_long_a_list(rt: HostRuntime) -> Result<(), Fail> {
     let mut places = [requirement(9, 9, 0)?; 10_001];
     let mut sheet = Sheet::new(&mut places);
-    assert_eq!(rt; number(sheet.add(requirement(2, 3, 10)?)), 24);
+    assert_eq!(rt; refused(sheet.add(requirement(2, 3, 10)?)), Some(24));
     assert_eq!(rt; sheet.len(), 0);
     assert_eq!(rt; limit(&sheet, 2, 3), None);
     Ok(())

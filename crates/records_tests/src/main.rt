@@ -1,18 +1,17 @@
 // Reads texts on standard input, a line each in hexadecimal, and writes what is made of each of their records.
 #![tactic(auto)]
 
-use std::io;
+use show::Records;
 use std::io::{BufRead, BufReader};
 
-mod hex;
 mod show;
 
-fn main(rt: HostRuntime) -> io::Result<()> {
+fn main(rt: HostRuntime) -> anyhow::Result<()> {
     let heap = rt.alloc();
     for line in BufReader::new(heap, rt.stdin())?.lines(heap) {
         let line = line?;
-        let text = hex::decoded(heap, line.as_bytes())?;
-        rt.println(show::records(heap, text.as_slice())?)?;
+        let text = hex::decode(heap, line.as_bytes())?;
+        rt.println(Records(text.as_slice()))?;
     }
     Ok(())
 }

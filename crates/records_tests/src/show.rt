@@ -1,103 +1,108 @@
 // Records as text.
-use faults::Fault;
 use kinds::Kind;
 use knowledge::Knowledge;
 use records::{Entry, ItemRow, entry};
 use requirement::RequirementRow;
-use std::alloc::{AllocError, Global};
+use std::fmt;
 use text::{Placed, Reader};
+use trials::{Answer, Limit, Numbers};
 
 // How many places the list of fields has: one more than any record needs.
 const PLACES: usize = 10;
 
-// A fault by its numbers: refusal, record and field.
-fn fault(heap: Global, found: Fault) -> Result<String, AllocError> {
-    let number = found.refusal.number();
-    let record = found.record;
-    let field = found.field;
-    format!(in heap; "!{number},{record},{field}")
-}
+// The record of a requirement.
+#[derive(Clone, Copy)]
+struct ShownRequirement(RequirementRow);
 
-fn limit(heap: Global, found: Option<i64>) -> Result<String, AllocError> {
-    match found {
-        Some(value) => format!(in heap; "{value}"),
-        None => String::from_str(heap, "none"),
+impl fmt::Display for ShownRequirement {
+    fn fmt<W: fmt::Write>(&self, f: &mut fmt::Formatter<W>) -> fmt::Result {
+        let RequirementRow {
+            class,
+            characteristic,
+            lower,
+            upper,
+            letter,
+            first,
+            second,
+            mode,
+        } = self.0;
+        let (lower, upper) = (Limit(lower), Limit(upper));
+        write!(
+            f,
+            "(R {class} {characteristic} {lower} {upper} {letter} {first} {second} {mode})"
+        )
     }
-}
-
-fn requirement(heap: Global, row: RequirementRow) -> Result<String, AllocError> {
-    let class = row.class;
-    let characteristic = row.characteristic;
-    let lower = limit(heap, row.lower)?;
-    let upper = limit(heap, row.upper)?;
-    let letter = row.letter;
-    let first = row.first;
-    let second = row.second;
-    let mode = row.mode;
-    format!(in heap;
-        "(R {class} {characteristic} {lower} {upper} {letter} {first} {second} {mode})"
-    )
 }
 
 // A kind: its letter, and where it is rectangular, what it answers one step above the reading, which tells its spread.
-fn kind(heap: Global, known: Kind) -> Result<String, AllocError> {
-    let (floor, ceiling) = known.at_most(1);
-    match known {
-        Kind::Normal(_) => String::from_str(heap, "N"),
-        Kind::Rectangular(_) => format!(in heap; "R:{floor}:{ceiling}"),
-    }
-}
+#[derive(Clone, Copy)]
+struct ShownKind(Kind);
 
-fn item(heap: Global, row: ItemRow) -> Result<String, AllocError> {
-    let number = row.number;
-    let class = row.class;
-    let characteristic = row.characteristic;
-    let reading = row.reading;
-    let kind = kind(heap, row.kind)?;
-    let bias = row.bias;
-    format!(in heap; "(I {number} {class} {characteristic} {reading} {kind} {bias})")
-}
-
-fn typed(heap: Global, found: Entry) -> Result<String, AllocError> {
-    match found {
-        Entry::Requirement(row) => requirement(heap, row),
-        Entry::Item(row) => item(heap, row),
-    }
-}
-
-// What is made of one record.
-fn record(heap: Global, number: u32, fields: &[Placed<'_>]) -> Result<String, AllocError> {
-    match entry(number, fields) {
-        Ok(found) => typed(heap, found),
-        Err(found) => fault(heap, found),
-    }
-}
-
-// The fields that the list holds of a record with so many.
-fn held<'a, 'b>(list: &'a [Placed<'b>], count: usize) -> &'a [Placed<'b>] {
-    if count < list.len() {
-        &list[..count]
-    } else {
-        list
-    }
-}
-
-// The records of a text, up to its end or the text's fault.
-pub fn records(heap: Global, text: &[u8]) -> Result<String, AllocError> {
-    let mut shown = String::new(heap);
-    let mut reader = Reader::new(text);
-    loop {
-        let mut list = [Placed::NONE; PLACES];
-        match reader.next_record(&mut list) {
-            Ok(Some(read)) => {
-                let one = record(heap, read.number, held(&list, read.count as usize))?;
-                shown.push_str(one.as_str())?;
+impl fmt::Display for ShownKind {
+    fn fmt<W: fmt::Write>(&self, f: &mut fmt::Formatter<W>) -> fmt::Result {
+        match self.0 {
+            Kind::Normal(_) => f.write_str("N"),
+            Kind::Rectangular(_) => {
+                let (floor, ceiling) = self.0.at_most(1);
+                write!(f, "R:{floor}:{ceiling}")
             }
-            Ok(None) => return Ok(shown),
-            Err(found) => {
-                let last = fault(heap, found)?;
-                shown.push_str(last.as_str())?;
-                return Ok(shown);
+        }
+    }
+}
+
+// The record of an item.
+#[derive(Clone, Copy)]
+struct ShownItem(ItemRow);
+
+impl fmt::Display for ShownItem {
+    fn fmt<W: fmt::Write>(&self, f: &mut fmt::Formatter<W>) -> fmt::Result {
+        let ItemRow {
+            number,
+            class,
+            characteristic,
+            reading,
+            kind,
+            bias,
+        } = self.0;
+        let kind = ShownKind(kind);
+        write!(
+            f,
+            "(I {number} {class} {characteristic} {reading} {kind} {bias})"
+        )
+    }
+}
+
+// A typed record.
+#[derive(Clone, Copy)]
+struct Typed(Entry);
+
+impl fmt::Display for Typed {
+    fn fmt<W: fmt::Write>(&self, f: &mut fmt::Formatter<W>) -> fmt::Result {
+        match self.0 {
+            Entry::Requirement(row) => write!(f, "{}", ShownRequirement(row)),
+            Entry::Item(row) => write!(f, "{}", ShownItem(row)),
+        }
+    }
+}
+
+// The records of a text, up to its end or the text's fault. The loop stands in text_tests too, over another list and another form of a
+// record: a shared one would need a trait for these two, longer than the loop.
+#[derive(Clone, Copy)]
+pub struct Records<'a>(pub &'a [u8]);
+
+impl fmt::Display for Records<'_> {
+    fn fmt<W: fmt::Write>(&self, f: &mut fmt::Formatter<W>) -> fmt::Result {
+        let mut reader = Reader::new(self.0);
+        loop {
+            let mut list = [Placed::NONE; PLACES];
+            match reader.next_record(&mut list) {
+                Ok(Some(read)) => {
+                    let held = list.get(..read.count as usize).unwrap_or(&list);
+                    let typed = entry(read.number, held).map(Typed);
+                    write!(f, "{}", Answer(typed))?;
+                }
+                Ok(None) => return Ok(()),
+                Err(fault) => return write!(f, "{}", Numbers(fault)),
             }
         }
     }

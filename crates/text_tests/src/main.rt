@@ -3,40 +3,30 @@
 // field, and `n` for the records of a text of commas, as many as the three bytes say.
 #![tactic(auto)]
 
-use std::alloc::{AllocError, Global};
-use std::io;
+use show::{Records, Values};
+use std::alloc::Global;
 use std::io::{BufRead, BufReader};
+use trials::with_commas;
 
-mod hex;
 mod show;
 
-fn commas(heap: Global, count: &[u8]) -> Result<Vec<u8>, AllocError> {
-    match count {
-        [a, b, c] => {
-            let length = usize::from(*a) * 65_536 + usize::from(*b) * 256 + usize::from(*c);
-            vec![in heap; b','; length]
-        }
-        _ => vec![in heap],
-    }
-}
-
-fn answer(heap: Global, case: &[u8]) -> Result<String, AllocError> {
+fn answer(rt: &impl Print, heap: Global, case: &[u8]) -> anyhow::Result<()> {
     match case {
-        [b't', digits @ ..] => show::records(heap, hex::decoded(heap, digits)?.as_slice()),
-        [b'v', digits @ ..] => show::values(heap, hex::decoded(heap, digits)?.as_slice()),
+        [b't', digits @ ..] => rt.println(Records(hex::decode(heap, digits)?.as_slice()))?,
+        [b'v', digits @ ..] => rt.println(Values(hex::decode(heap, digits)?.as_slice()))?,
         [b'n', digits @ ..] => {
-            let count = hex::decoded(heap, digits)?;
-            show::records(heap, commas(heap, count.as_slice())?.as_slice())
+            let count = hex::decode(heap, digits)?;
+            rt.println(Records(with_commas(heap, count.as_slice())?.as_slice()))?;
         }
-        _ => String::from_str(heap, "no case"),
+        _ => rt.println("no case")?,
     }
+    Ok(())
 }
 
-fn main(rt: HostRuntime) -> io::Result<()> {
+fn main(rt: HostRuntime) -> anyhow::Result<()> {
     let heap = rt.alloc();
     for line in BufReader::new(heap, rt.stdin())?.lines(heap) {
-        let line = line?;
-        rt.println(answer(heap, line.as_bytes())?)?;
+        answer(&rt, heap, line?.as_bytes())?;
     }
     Ok(())
 }

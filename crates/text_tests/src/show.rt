@@ -1,104 +1,90 @@
 // Records and values as text.
-use crate::hex;
-use faults::Fault;
 use fields::{letter, limit, number, says};
-use std::alloc::{AllocError, Global};
+use std::fmt;
 use text::{Field, Placed, Reader, Record};
+use trials::{Answer, Limit, Numbers};
 
 // How many places the list of fields has: fewer than some records have fields.
 const PLACES: usize = 3;
 
-// A fault by its numbers: refusal, record and field.
-fn fault(heap: Global, found: Fault) -> Result<String, AllocError> {
-    let number = found.refusal.number();
-    let record = found.record;
-    let field = found.field;
-    format!(in heap; "!{number},{record},{field}")
-}
+// A field: its kind, its place and its bytes in hexadecimal.
+#[derive(Clone, Copy)]
+struct Shown<'a>(Placed<'a>);
 
-// A field: its kind, its place and its bytes.
-fn field(heap: Global, placed: Placed<'_>) -> Result<String, AllocError> {
-    let kind = match placed.content {
-        Field::Bare(_) => 'b',
-        Field::Quoted(_) => 'q',
-    };
-    let record = placed.record;
-    let place = placed.field;
-    let bytes = hex::encoded(heap, placed.content.bytes())?;
-    format!(in heap; "{kind}{record}.{place}:{bytes}")
+impl fmt::Display for Shown<'_> {
+    fn fmt<W: fmt::Write>(&self, f: &mut fmt::Formatter<W>) -> fmt::Result {
+        let Placed {
+            content,
+            record,
+            field,
+        } = self.0;
+        let kind = match content {
+            Field::Bare(_) => 'b',
+            Field::Quoted(_) => 'q',
+        };
+        write!(f, "{kind}{record}.{field}:")?;
+        for byte in content.bytes() {
+            write!(f, "{byte:02x}")?;
+        }
+        Ok(())
+    }
 }
 
 // A record: its number, its count of fields, and all that the list holds.
-fn record(heap: Global, read: Record, list: &[Placed<'_>]) -> Result<String, AllocError> {
-    let number = read.number;
-    let count = read.count;
-    let mut shown = format!(in heap; "({number},{count}")?;
-    for placed in list {
-        let one = field(heap, *placed)?;
-        shown.push(' ')?;
-        shown.push_str(one.as_str())?;
+#[derive(Clone, Copy)]
+struct Listed<'a> {
+    record: Record,
+    list: [Placed<'a>; PLACES],
+}
+
+impl fmt::Display for Listed<'_> {
+    fn fmt<W: fmt::Write>(&self, f: &mut fmt::Formatter<W>) -> fmt::Result {
+        let Record { number, count } = self.record;
+        write!(f, "({number},{count}")?;
+        for placed in self.list {
+            write!(f, " {}", Shown(placed))?;
+        }
+        f.write_char(')')
     }
-    shown.push(')')?;
-    Ok(shown)
 }
 
 // The records of a text, up to its end or its fault.
-pub fn records(heap: Global, text: &[u8]) -> Result<String, AllocError> {
-    let mut shown = String::new(heap);
-    let mut reader = Reader::new(text);
-    loop {
-        let mut list = [Placed::NONE; PLACES];
-        match reader.next_record(&mut list) {
-            Ok(Some(read)) => {
-                let one = record(heap, read, &list)?;
-                shown.push_str(one.as_str())?;
-            }
-            Ok(None) => return Ok(shown),
-            Err(found) => {
-                let last = fault(heap, found)?;
-                shown.push_str(last.as_str())?;
-                return Ok(shown);
+#[derive(Clone, Copy)]
+pub struct Records<'a>(pub &'a [u8]);
+
+impl fmt::Display for Records<'_> {
+    fn fmt<W: fmt::Write>(&self, f: &mut fmt::Formatter<W>) -> fmt::Result {
+        let mut reader = Reader::new(self.0);
+        loop {
+            let mut list = [Placed::NONE; PLACES];
+            match reader.next_record(&mut list) {
+                Ok(Some(record)) => write!(f, "{}", Listed { record, list })?,
+                Ok(None) => return Ok(()),
+                Err(fault) => return write!(f, "{}", Numbers(fault)),
             }
         }
-    }
-}
-
-fn number_of(heap: Global, placed: Placed<'_>) -> Result<String, AllocError> {
-    match number(placed) {
-        Ok(value) => format!(in heap; "{value}"),
-        Err(found) => fault(heap, found),
-    }
-}
-
-fn limit_of(heap: Global, placed: Placed<'_>) -> Result<String, AllocError> {
-    match limit(placed) {
-        Ok(Some(value)) => format!(in heap; "{value}"),
-        Ok(None) => String::from_str(heap, "none"),
-        Err(found) => fault(heap, found),
-    }
-}
-
-fn letter_of(heap: Global, placed: Placed<'_>) -> Result<String, AllocError> {
-    match letter(placed) {
-        Ok(value) => {
-            let code = u32::from(value);
-            format!(in heap; "{code}")
-        }
-        Err(found) => fault(heap, found),
     }
 }
 
 // The first field of a text as a number, as a limit, as a letter, and whether it says REQ and a quote.
-pub fn values(heap: Global, text: &[u8]) -> Result<String, AllocError> {
-    let mut list = [Placed::NONE; 1];
-    if Reader::new(text).next_record(&mut list).is_err() {
-        return String::from_str(heap, "refused");
+#[derive(Clone, Copy)]
+pub struct Values<'a>(pub &'a [u8]);
+
+impl fmt::Display for Values<'_> {
+    fn fmt<W: fmt::Write>(&self, f: &mut fmt::Formatter<W>) -> fmt::Result {
+        let mut list = [Placed::NONE; 1];
+        if Reader::new(self.0).next_record(&mut list).is_err() {
+            return f.write_str("refused");
+        }
+        let [placed] = list;
+        write!(
+            f,
+            "{} {} {} {} {}",
+            Answer(number(placed)),
+            Answer(limit(placed).map(Limit)),
+            Answer(letter(placed).map(u32::from)),
+            says(placed, b"REQ"),
+            says(placed, b"\"")
+        )
     }
-    let [placed] = list;
-    let a = number_of(heap, placed)?;
-    let b = limit_of(heap, placed)?;
-    let c = letter_of(heap, placed)?;
-    let d = says(placed, b"REQ");
-    let e = says(placed, b"\"");
-    format!(in heap; "{a} {b} {c} {d} {e}")
 }

@@ -1,120 +1,13 @@
-// Carries readings of a haul road from what is required of them to their verdicts, and prints each step.
+// Carries readings of a haul road from what is required of them to their verdicts, and prints each step; then a lot through its calls.
 #![tactic(auto)]
 
 mod lots;
-mod steps;
-mod stops;
-mod words;
 
-use bias::{Biased, check_bias};
-use figures::{figures_held, greatest_passing_grade};
 use lots::enter_and_strike;
-use normal::Normal;
-use rectangular::Rectangular;
-use requirement::RequirementRow;
-use steps::{Case, carry, decide};
-use stops::Stop;
-use words::word;
+use steps::show_steps;
 
-// The grade of a haul road in hundredths of a percent, from level to 10 %, with 2.5 % of risk on either side.
-const GRADE: RequirementRow = RequirementRow {
-    class: 1,
-    characteristic: 1,
-    lower: Some(0),
-    upper: Some(1_000),
-    letter: 'P',
-    first: 25_000,
-    second: 25_000,
-    mode: 2,
-};
-
-// A reading of the grade. Its expanded uncertainty is twice the standard one, 58 steps for a half-width of 100.
-const GRADED: Case = Case {
-    row: GRADE,
-    expanded: 116,
-    reading: 905,
-};
-
-// The requirement on the grade with another decision rule and mode.
-fn by_rule(letter: char, first: i64, second: i64, mode: i64) -> RequirementRow {
-    RequirementRow {
-        letter,
-        first,
-        second,
-        mode,
-        ..GRADE
-    }
-}
-
-// A grade whose error lies within 100 steps.
-fn within_half_width(rt: &HostRuntime) -> Result<(), Stop> {
-    println!(rt;
-        "1. A grade whose error is at most 100 steps either way, each part as likely as any other"
-    )?;
-    carry(rt, &GRADED, &Rectangular::new(100)?)
-}
-
-// The same grade, its error normal, by an instrument that reads 20 steps too high.
-fn normal_with_bias(rt: &HostRuntime) -> Result<(), Stop> {
-    println!(rt;
-        "2. The same reading with standard uncertainty 58, by an instrument that reads 20 steps too high"
-    )?;
-    check_bias(20)?;
-    let knowledge = Biased::new(Normal::new(58)?, 20);
-    carry(rt, &GRADED, &knowledge)
-}
-
-// One reading under every rule, with standard uncertainty 40; the last shares are smaller than what is known can promise.
-fn under_each_rule(rt: &HostRuntime, reading: i64) -> Result<(), Stop> {
-    println!(rt; "   reading {reading}, standard uncertainty 40, expanded uncertainty 80")?;
-    let knowledge = Normal::new(40)?;
-    let rows = [
-        by_rule('S', 0, 0, 2),
-        by_rule('G', 50, 0, 4),
-        by_rule('M', 100, 0, 4),
-        by_rule('M', -50, 0, 2),
-        by_rule('P', 50_000, 50_000, 2),
-        by_rule('P', 30, 30, 2),
-    ];
-    for row in rows {
-        let case = Case {
-            row,
-            expanded: 80,
-            reading,
-        };
-        decide(rt, &case, &knowledge)?;
-    }
+fn main(rt: HostRuntime) -> anyhow::Result<()> {
+    show_steps(&rt)?;
+    enter_and_strike(&rt)?;
     Ok(())
-}
-
-// What contracts say: worked figures, and one reading that passes.
-fn by_contract(rt: &HostRuntime) -> Result<(), Stop> {
-    let count = figures_held();
-    let judgement = greatest_passing_grade();
-    let (floor, ceiling) = (judgement.bracket.floor, judgement.bracket.ceiling);
-    let verdict = word(judgement.verdict);
-    println!(rt; "4. By contract: {count} worked figures hold")?;
-    println!(rt;
-        "   reading 910 within 100 steps, at most 1000 with a risk of at most 50000: bracket {floor} to {ceiling}, verdict {verdict}"
-    )?;
-    Ok(())
-}
-
-fn run(rt: &HostRuntime) -> Result<(), Stop> {
-    within_half_width(rt)?;
-    normal_with_bias(rt)?;
-    println!(rt; "3. Two readings against the limits 0 and 1000 under each decision rule")?;
-    under_each_rule(rt, 960)?;
-    under_each_rule(rt, 1_010)?;
-    by_contract(rt)?;
-    enter_and_strike(rt)
-}
-
-fn main(rt: HostRuntime) -> Result<(), Stop> {
-    let outcome = run(&rt);
-    if let Err(Stop::Refused(fault)) = &outcome {
-        let number = fault.refusal.number();
-        eprintln!(rt; "refused with {number}")?;
-    }
-    outcome
 }

@@ -1,6 +1,6 @@
 // What the tests share.
 use faults::Fault;
-use judging::{Bracket, Verdict, bracket};
+use judging::{Bracket, bracket};
 use normal::Normal;
 use requirement::{Requirement, RequirementRow};
 
@@ -27,14 +27,4 @@ pub fn known(
 ) -> Result<Bracket, Fault> {
     let requirement = Requirement::new(&simple(lower, upper))?;
     bracket(&requirement, reading, &Normal::new(standard_uncertainty)?)
-}
-
-// The word for a verdict.
-pub fn word(verdict: Verdict) -> &'static str {
-    match verdict {
-        Verdict::Pass => "pass",
-        Verdict::ConditionalPass => "cpass",
-        Verdict::ConditionalFail => "cfail",
-        Verdict::Fail => "fail",
-    }
 }

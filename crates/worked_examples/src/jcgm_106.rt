@@ -1,5 +1,5 @@
 // Examples of JCGM 106:2012, in the Spanish edition of the Centro Español de Metrología, 2015.
-use crate::cases::{known, simple, word};
+use crate::cases::{known, simple};
 use judging::judge;
 use normal::Normal;
 use requirement::{Requirement, RequirementRow};
@@ -94,10 +94,10 @@ fn guard_band_of_expanded_uncertainty(rt: HostRuntime) -> Result<(), Fail> {
     let requirement = Requirement::new(&row)?;
     let knowledge = Normal::new(10)?;
     let on_limit = judge(&requirement, 20, 980, &knowledge)?;
-    assert_eq!(rt; word(on_limit.verdict), "pass");
+    assert_eq!(rt; on_limit.verdict.word(), "pass");
     assert!(rt; 977_000 <= on_limit.bracket.floor);
     let beyond = judge(&requirement, 20, 981, &knowledge)?;
-    assert_eq!(rt; word(beyond.verdict), "fail");
+    assert_eq!(rt; beyond.verdict.word(), "fail");
     Ok(())
 }
 

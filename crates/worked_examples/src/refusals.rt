@@ -1,25 +1,17 @@
 // Every refusal of a requirement, of acceptance limits and of judging, by its number.
 use crate::cases::simple;
 use acceptance::limits;
-use faults::Fault;
 use judging::{bracket, judge};
 use normal::Normal;
 use requirement::{Requirement, RequirementRow};
 use std::process::Abort;
 use std::test::Fail;
+use trials::refused;
 
-// The number of a refusal, 0 where there is none.
-fn number<T: Drop>(res: Result<T, Fault>) -> u8 {
-    match res {
-        Ok(_) => 0,
-        Err(fault) => fault.refusal.number(),
-    }
-}
-
-// Each record is refused with this number.
-fn check_making(rt: &impl Abort, rows: &[RequirementRow], expected: u8) {
+// Each record is refused with this number, or none is refused.
+fn check_making(rt: &impl Abort, rows: &[RequirementRow], expected: Option<u8>) {
     for row in rows {
-        assert_eq!(rt; number(Requirement::new(row)), expected);
+        assert_eq!(rt; refused(Requirement::new(row)), expected);
     }
 }
 
@@ -54,14 +46,14 @@ fn fields_and_limits(rt: HostRuntime) {
         ruled('G', 0, 1_000_001, 2),
         ruled('S', 0, 0, 3),
     ];
-    check_making(&rt, &[good], 0);
-    check_making(&rt, &out_of_range, 12);
-    check_making(&rt, &[ruled('X', 0, 0, 2)], 13);
-    check_making(&rt, &[simple(None, None)], 20);
+    check_making(&rt, &[good], None);
+    check_making(&rt, &out_of_range, Some(12));
+    check_making(&rt, &[ruled('X', 0, 0, 2)], Some(13));
+    check_making(&rt, &[simple(None, None)], Some(20));
     check_making(
         &rt,
         &[simple(Some(0), Some(0)), simple(Some(1), Some(0))],
-        21,
+        Some(21),
     );
 }
 
@@ -91,27 +83,27 @@ fn numbers_and_modes_against_the_rule(rt: HostRuntime) {
             ..ruled('P', 1, 1, 2)
         },
     ];
-    check_making(&rt, &against, 22);
+    check_making(&rt, &against, Some(22));
 }
 
-// The calls on a reading, and the number with which each is refused, 0 for an answer.
+// The calls on a reading, and the number with which each is refused, if it is.
 #[derive(Clone, Copy)]
 struct Calls {
     row: RequirementRow,
     expanded: i64,
     reading: i64,
-    bracket: u8,
-    limits: u8,
-    judge: u8,
+    bracket: Option<u8>,
+    limits: Option<u8>,
+    judge: Option<u8>,
 }
 
 // A reading in range and an expanded uncertainty of 0, where bracket answers and the other two are refused alike.
-fn in_range(row: RequirementRow, number: u8) -> Calls {
+fn in_range(row: RequirementRow, number: Option<u8>) -> Calls {
     Calls {
         row,
         expanded: 0,
         reading: 50,
-        bracket: 0,
+        bracket: None,
         limits: number,
         judge: number,
     }
@@ -120,75 +112,75 @@ fn in_range(row: RequirementRow, number: u8) -> Calls {
 // A number out of range comes before an offset that is not there, and this before acceptance limits that cross.
 #[test]
 fn calls_in_order(rt: HostRuntime) -> Result<(), Fail> {
-    let good = in_range(ruled('S', 0, 0, 2), 0);
-    let too_sure = in_range(ruled('P', 500_000, 34, 2), 31);
-    let crossed = in_range(ruled('G', 51, 0, 2), 32);
+    let good = in_range(ruled('S', 0, 0, 2), None);
+    let too_sure = in_range(ruled('P', 500_000, 34, 2), Some(31));
+    let crossed = in_range(ruled('G', 51, 0, 2), Some(32));
     let calls = [
         good,
         Calls {
             reading: 1_000_001,
-            bracket: 12,
-            judge: 12,
+            bracket: Some(12),
+            judge: Some(12),
             ..good
         },
         Calls {
             reading: -1_000_001,
-            bracket: 12,
-            judge: 12,
+            bracket: Some(12),
+            judge: Some(12),
             ..good
         },
         Calls {
             expanded: -1,
-            limits: 12,
-            judge: 12,
+            limits: Some(12),
+            judge: Some(12),
             ..good
         },
         Calls {
             expanded: 1_000_001,
-            limits: 12,
-            judge: 12,
+            limits: Some(12),
+            judge: Some(12),
             ..good
         },
         too_sure,
         Calls {
             reading: 1_000_001,
-            bracket: 12,
-            judge: 12,
+            bracket: Some(12),
+            judge: Some(12),
             ..too_sure
         },
         Calls {
             expanded: -1,
-            limits: 12,
-            judge: 12,
+            limits: Some(12),
+            judge: Some(12),
             ..too_sure
         },
         crossed,
         Calls {
             reading: 1_000_001,
-            bracket: 12,
-            judge: 12,
+            bracket: Some(12),
+            judge: Some(12),
             ..crossed
         },
         Calls {
             expanded: -1,
-            limits: 12,
-            judge: 12,
+            limits: Some(12),
+            judge: Some(12),
             ..crossed
         },
-        in_range(ruled('P', 34, 500_000, 2), 31),
-        in_range(ruled('P', 25_000, 25_000, 2), 32),
+        in_range(ruled('P', 34, 500_000, 2), Some(31)),
+        in_range(ruled('P', 25_000, 25_000, 2), Some(32)),
     ];
     let knowledge = Normal::new(100)?;
     for call in calls {
         let requirement = Requirement::new(&call.row)?;
         let known = bracket(&requirement, call.reading, &knowledge);
-        assert_eq!(rt; number(known), call.bracket);
+        assert_eq!(rt; refused(known), call.bracket);
         assert_eq!(rt;
-            number(limits(&requirement, call.expanded, &knowledge)),
+            refused(limits(&requirement, call.expanded, &knowledge)),
             call.limits
         );
         let judged = judge(&requirement, call.expanded, call.reading, &knowledge);
-        assert_eq!(rt; number(judged), call.judge);
+        assert_eq!(rt; refused(judged), call.judge);
     }
     Ok(())
 }

@@ -1,0 +1,32 @@
+// What the programs and tests share that try the engine: how they write limits and faults, the number of a refusal, and long texts.
+#![tactic(auto)]
+
+ghost use Rattle.std.specs.Prelude.{◌≡◌, IfOk};
+ghost use Rattle.trials.specs.Texts.{with_commas};
+ghost use Rattle.trials.specs.Refused.{number_of};
+
+mod shown;
+
+use faults::Fault;
+pub use shown::{Answer, Limit, Numbers};
+use std::alloc::{AllocError, Global};
+
+// The number of a refusal, if the call was refused.
+pub fn refused<T: Drop>(answer: Result<T, Fault>) -> Option<u8>
+    ensures { result ≡ number_of answer }
+{
+    answer.err().map(|fault| fault.refusal.number())
+}
+
+// The text of a case: three bytes are a number, the others begin the text, and so many commas end it, which keeps cases of long texts short.
+pub fn with_commas(heap: Global, case: &[u8]) -> Result<Vec<u8>, AllocError>
+    ensures { IfOk result (λ text. text.items ≡ with_commas case.now) }
+{
+    let [high, middle, low, start @ ..] = case else {
+        return Ok(Vec::new(heap));
+    };
+    let commas = u32::from_be_bytes([0, *high, *middle, *low]) as usize;
+    let mut text = start.to_vec(heap)?;
+    text.resize(start.len() + commas, b',')?;
+    Ok(text)
+}
