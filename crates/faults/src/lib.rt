@@ -3,7 +3,10 @@
 
 ghost use Rattle.std.specs.Prelude.{◌≡◌};
 ghost use Rattle.faults.specs.Numbers.{number, layer};
-ghost use Rattle.faults.specs.Faults.{direct};
+ghost use Rattle.faults.specs.Faults.{AnswersBy, check, direct};
+
+use std::error::Error;
+use std::fmt;
 
 // A cause of refusal. `number` gives each its published number.
 #[derive(Clone, Copy, PartialEq, Eq, Debug)]
@@ -30,7 +33,7 @@ pub enum Refusal {
 }
 
 impl Refusal {
-    // The published number of the cause.
+    // The published number of the cause. A method of its own, since a conversion to a number would not say which of the two it gives.
     pub fn number(self) -> u8
         ensures { result ≡ number self }
     {
@@ -63,6 +66,17 @@ impl Refusal {
     {
         self.number() / 10 + 1
     }
+
+    // Refuses directly unless the condition holds.
+    pub fn unless(self, holds: bool) -> Result<(), Fault>
+        ensures { AnswersBy (check holds self None) result (λ _. Unit {0}) }
+    {
+        if holds {
+            Ok(())
+        } else {
+            Err(Fault::direct(self))
+        }
+    }
 }
 
 // A refusal with the record and the field that it concerns, both 0 where a call has no record text.
@@ -85,3 +99,15 @@ impl Fault {
         }
     }
 }
+
+impl fmt::Display for Fault {
+    fn fmt<W: fmt::Write>(&self, f: &mut fmt::Formatter<W>) -> fmt::Result {
+        write!(f, "refusal {}", self.refusal.number())?;
+        if self.record > 0 {
+            write!(f, " at record {}, field {}", self.record, self.field)?;
+        }
+        Ok(())
+    }
+}
+
+impl Error for Fault {}

@@ -4,14 +4,11 @@ use Rattle.faults.specs.declared.Refusal.{Refusal}
 use Rattle.faults.specs.declared.Fault.{Fault}
 use Rattle.text.specs.declared.field.Placed.{Placed}
 use Rattle.text.specs.Content.{content_of}
+use Rattle.text.specs.Faults.{fault_at}
 
 -- the content of the field
 abbrev pub said : Placed → List ℕ
 said p = content_of p.content
-
--- the fault that names the field's place
-abbrev pub fault_at : Placed → Refusal → Fault
-fault_at p e = record { refusal = e; «record» = p.«record»; field = p.field }
 
 -- a value with Q where P holds, and where it does not, the refusal e of this field
 abbrev pub Told : {T : Type 0} → Placed → Result T Fault → Type 0 → (T → Type 0) → Refusal → Type 0

@@ -6,7 +6,6 @@ ghost use Rattle.text.specs.Grammar.{DQUOTE};
 ghost use Rattle.fields.specs.Answers.{said, Told};
 ghost use Rattle.fields.specs.Values.{IsLetter, SaysLetter};
 
-use crate::refused;
 use faults::{Fault, Refusal};
 use text::{Field, Placed};
 
@@ -35,6 +34,6 @@ pub fn letter(field: Placed<'_>) -> Result<char, Fault>
 {
     match said_letter(field.content) {
         Some(letter) => Ok(letter),
-        None => Err(refused(field, Refusal::UnknownLetter)),
+        None => Err(field.fault(Refusal::UnknownLetter)),
     }
 }

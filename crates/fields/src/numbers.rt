@@ -6,7 +6,6 @@ ghost use Rattle.text.specs.Content.{content_of};
 ghost use Rattle.fields.specs.Answers.{said, Told};
 ghost use Rattle.fields.specs.Values.{Numeral, worth, negative, magnitude, IsNumber, number_of, IsLimit, SaysLimit};
 
-use crate::refused;
 use faults::{Fault, Refusal};
 use text::{Field, Placed};
 
@@ -93,7 +92,7 @@ pub fn number(field: Placed<'_>) -> Result<i64, Fault>
 {
     match said_number(field.content) {
         Some(value) => Ok(value),
-        None => Err(refused(field, Refusal::NotANumber)),
+        None => Err(field.fault(Refusal::NotANumber)),
     }
 }
 

@@ -1,2 +1,3 @@
 pub mod Figures
+pub mod Grades
 pub mod Reading

@@ -6,7 +6,7 @@ ghost use Rattle.figures.specs.Figures.{figures, AllHold};
 
 mod reading;
 
-pub use reading::greatest_passing_grade;
+pub use reading::{grade_requirement, greatest_passing_grade};
 
 // How many worked figures there are; that each of them holds is what the contract says.
 pub fn figures_held() -> u32

@@ -1,3 +1,4 @@
 pub mod Brackets
 pub mod Verdicts
+pub mod Words
 pub mod Guarantee

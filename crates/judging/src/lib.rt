@@ -10,6 +10,7 @@ ghost use Rattle.judging.specs.Guarantee.{BracketHolds, JudgementHolds};
 
 mod answers;
 mod verdicts;
+mod words;
 
 use acceptance::{guard_width, limits};
 pub use answers::{Bracket, Judgement, Verdict};

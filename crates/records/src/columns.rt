@@ -1,8 +1,8 @@
 // The columns of the records: a field to its value, or the fault of the field.
 ghost use Rattle.std.specs.Prelude.{◌≡◌, is_some};
 ghost use Rattle.faults.specs.Ranges.{from_to};
-ghost use Rattle.fields.specs.Answers.{fault_at};
 ghost use Rattle.fields.specs.Values.{number_of};
+ghost use Rattle.text.specs.Faults.{fault_at};
 ghost use Rattle.kinds.specs.Kinds.{known_kind};
 ghost use Rattle.requirement.specs.Limits.{limit_in_reach};
 ghost use Rattle.requirement.specs.Rules.{mode_of};
@@ -126,7 +126,7 @@ pub(crate) fn kind_letter(field: Placed<'_>) -> Result<char, Fault>
 fn names_mode(number: i64) -> bool
     ensures { result ≡ is_some (mode_of number) }
 {
-    Mode::from_number(number).is_some()
+    Mode::try_from(number).is_ok()
 }
 
 // The number of a mode.

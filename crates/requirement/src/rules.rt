@@ -1,8 +1,11 @@
 // Decision rules and modes.
-ghost use Rattle.std.specs.Prelude.{◌≡◌};
+ghost use Rattle.std.specs.Prelude.{◌≡◌, is_some, None, Some};
+ghost use Rattle.faults.specs.Faults.{AnswersBy, check};
+ghost use Rattle.faults.specs.declared.Refusal.TheVariants.{OutOfRange};
 ghost use Rattle.requirement.specs.Rules.{rule_of, mode_of, known_letter, is_share, numbers_fit, fits_limits, fits_mode};
 
 use crate::Tolerance;
+use faults::{Fault, Refusal};
 
 // How acceptance limits come from tolerance limits. Each case holds what its rule needs.
 #[derive(Clone, Copy, PartialEq, Eq, Debug)]
@@ -28,17 +31,14 @@ pub enum Mode {
 pub fn names_rule(letter: char) -> bool
     ensures { result ≡ known_letter letter }
 {
-    match letter {
-        'S' | 'G' | 'M' | 'P' => true,
-        _ => false,
-    }
+    matches!(letter, 'S' | 'G' | 'M' | 'P')
 }
 
 // Whether a number can be a share of the risk, in millionths.
 fn is_share(value: i64) -> bool
     ensures { result ≡ is_share value }
 {
-    0 <= value && value <= 500_000
+    (0..=500_000).contains(&value)
 }
 
 impl Rule {
@@ -64,8 +64,8 @@ impl Rule {
     {
         match self {
             Rule::Simple => true,
-            Rule::Guard(width) => -100_000 <= width && width <= 100_000,
-            Rule::Multiple(hundredths) => -200 <= hundredths && hundredths <= 200,
+            Rule::Guard(width) => (-100_000..=100_000).contains(&width),
+            Rule::Multiple(hundredths) => (-200..=200).contains(&hundredths),
             Rule::Shares(lower, upper) => is_share(i64::from(lower)) && is_share(i64::from(upper)),
         }
     }
@@ -97,15 +97,17 @@ impl Rule {
     }
 }
 
-impl Mode {
-    // The mode of a number, 2 or 4.
-    pub fn from_number(number: i64) -> Option<Self>
-        ensures { result ≡ mode_of number }
-    {
+// The mode of a number, 2 or 4.
+impl TryFrom<i64> for Mode {
+    type Error = Fault;
+
+    ghost try_from_gives = { λ number r. AnswersBy (check (is_some (mode_of number)) OutOfRange None) r (λ m. Some m ≡ mode_of number) };
+
+    fn try_from(number: i64) -> Result<Self, Fault> {
         match number {
-            2 => Some(Mode::Two),
-            4 => Some(Mode::Four),
-            _ => None,
+            2 => Ok(Mode::Two),
+            4 => Ok(Mode::Four),
+            _ => Err(Fault::direct(Refusal::OutOfRange)),
         }
     }
 }

@@ -1,8 +1,9 @@
 // The requirement sheet: requirements by class and characteristic, over the caller's list.
 #![tactic(auto)]
 
+ghost use Rattle.std.specs.Prelude.{◌≡◌};
 ghost use Rattle.faults.specs.Faults.{AnswersBy};
-ghost use Rattle.sheet.specs.Lists.{list_refusal};
+ghost use Rattle.sheet.specs.Lists.{list_refusal, places_of};
 
 use faults::{Fault, Refusal};
 
@@ -21,4 +22,14 @@ pub fn check_places(places: usize) -> Result<(), Fault>
         return Err(Fault::direct(Refusal::OutOfRange));
     }
     Ok(())
+}
+
+// How many places a list of so many gives a sheet or a lot: all of its own, but none where the check refuses it.
+pub fn usable_places(places: usize) -> usize
+    ensures { result ≡ places_of places }
+{
+    match check_places(places) {
+        Ok(()) => places,
+        Err(_) => 0,
+    }
 }

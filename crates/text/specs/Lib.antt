@@ -3,6 +3,7 @@ pub mod Offences
 pub mod Machine
 pub mod Fronts
 pub mod Content
+pub mod Faults
 pub mod Records
 pub mod Reading
 pub mod Rows

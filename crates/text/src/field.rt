@@ -1,7 +1,10 @@
 // A field, as the text has it.
 ghost use Rattle.std.specs.Prelude.{◌≡◌, []};
 ghost use Rattle.text.specs.Content.{holds};
+ghost use Rattle.text.specs.Faults.{fault_at};
 ghost use Rattle.text.specs.Fronts.{form};
+
+use faults::{Fault, Refusal};
 
 // The bytes of a field, borrowed from the text.
 #[derive(Clone, Copy, Debug)]
@@ -38,4 +41,15 @@ impl Placed<'_> {
         record: 0,
         field: 0,
     };
+
+    // The fault of this field.
+    pub fn fault(self, refusal: Refusal) -> Fault
+        ensures { result ≡ fault_at self.entry refusal }
+    {
+        Fault {
+            refusal,
+            record: self.record,
+            field: self.field,
+        }
+    }
 }

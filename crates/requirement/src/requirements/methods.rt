@@ -1,46 +1,49 @@
 // Making a requirement and asking for its parts.
-ghost use Rattle.std.specs.Prelude.{◌≡◌, true, pos, Some};
+ghost use Rattle.std.specs.Prelude.{◌≡◌, true, pos};
 ghost use Rattle.faults.specs.Faults.{AnswersBy};
 ghost use Rattle.requirement.specs.Rules.{rule_of, mode_of};
-ghost use Rattle.requirement.specs.Requirements.{together};
-ghost use Rattle.requirement.specs.Making.{Placed, HoldsRow, place_refusal, rule_refusal, mode_refusal, suit_refusal, requirement_refusal};
+ghost use Rattle.requirement.specs.Requirements.{is_class, is_characteristic, together};
+ghost use Rattle.requirement.specs.Making.{Placed, HoldsRow, place_refusal, rule_refusal, suit_refusal, requirement_refusal};
 
 use super::Requirement;
-use crate::tolerance::methods::limit_in_reach;
-use crate::{Mode, RequirementRow, Rule, Tolerance, in_reach, names_rule};
+use crate::{Mode, RequirementRow, Rule, Tolerance, in_reach, limit_in_reach, names_rule};
 use faults::{Fault, Refusal};
+
+// Classes run from 1 to this one.
+pub const LAST_CLASS: i64 = 9;
+
+// Characteristics run from 1 to this one.
+pub const LAST_CHARACTERISTIC: i64 = 20;
+
+// Whether a number is a class.
+pub fn is_class(value: i64) -> bool
+    ensures { result ≡ is_class value }
+{
+    (1..=LAST_CLASS).contains(&value)
+}
+
+// Whether a number is a characteristic.
+pub fn is_characteristic(value: i64) -> bool
+    ensures { result ≡ is_characteristic value }
+{
+    (1..=LAST_CHARACTERISTIC).contains(&value)
+}
 
 fn check_place(row: &RequirementRow) -> Result<(), Fault>
     ensures { AnswersBy (place_refusal row.now) result (λ _. Placed row.now) }
 {
-    if row.class < 1 || row.class > 9 || row.characteristic < 1 || row.characteristic > 20 {
-        return Err(Fault::direct(Refusal::OutOfRange));
-    }
-    if !limit_in_reach(row.lower) || !limit_in_reach(row.upper) {
-        return Err(Fault::direct(Refusal::OutOfRange));
-    }
-    Ok(())
+    Refusal::OutOfRange.unless(is_class(row.class))?;
+    Refusal::OutOfRange.unless(is_characteristic(row.characteristic))?;
+    Refusal::OutOfRange.unless(limit_in_reach(row.lower))?;
+    Refusal::OutOfRange.unless(limit_in_reach(row.upper))
 }
 
 fn check_rule(row: &RequirementRow) -> Result<(), Fault>
     ensures { AnswersBy (rule_refusal row.now) result (λ _. Unit {0}) }
 {
-    if !names_rule(row.letter) {
-        return Err(Fault::direct(Refusal::UnknownLetter));
-    }
-    if !in_reach(row.first) || !in_reach(row.second) {
-        return Err(Fault::direct(Refusal::OutOfRange));
-    }
-    Ok(())
-}
-
-fn checked_mode(row: &RequirementRow) -> Result<Mode, Fault>
-    ensures { AnswersBy (mode_refusal row.now) result (λ m. Some m ≡ mode_of row.now.mode) }
-{
-    match Mode::from_number(row.mode) {
-        Some(mode) => Ok(mode),
-        None => Err(Fault::direct(Refusal::OutOfRange)),
-    }
+    Refusal::UnknownLetter.unless(names_rule(row.letter))?;
+    Refusal::OutOfRange.unless(in_reach(row.first))?;
+    Refusal::OutOfRange.unless(in_reach(row.second))
 }
 
 // The rule that the letter and the numbers make, if it goes with the limits and the mode.
@@ -76,7 +79,7 @@ impl Requirement {
     {
         check_place(row)?;
         check_rule(row)?;
-        let mode = checked_mode(row)?;
+        let mode = Mode::try_from(row.mode)?;
         let tolerance = Tolerance::new(row.lower, row.upper)?;
         let rule = suited_rule(row, &tolerance, mode)?;
         Ok(assembled(row, tolerance, rule, mode))

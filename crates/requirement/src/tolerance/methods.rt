@@ -13,31 +13,21 @@ pub const REACH: i64 = 1_000_000;
 pub fn within(lower: Option<i64>, upper: Option<i64>, value: i64) -> bool
     ensures { result ≡ within lower upper value }
 {
-    let not_below = match lower {
-        Some(limit) => limit <= value,
-        None => true,
-    };
-    let not_above = match upper {
-        Some(limit) => value <= limit,
-        None => true,
-    };
-    not_below && not_above
+    lower.is_none_or(|limit| limit <= value) && upper.is_none_or(|limit| value <= limit)
 }
 
 // Whether a reading or a limit lies in the range that the engine covers.
 pub fn in_reach(value: i64) -> bool
     ensures { result ≡ in_reach value }
 {
-    -REACH <= value && value <= REACH
+    (-REACH..=REACH).contains(&value)
 }
 
-pub(crate) fn limit_in_reach(limit: Option<i64>) -> bool
+// Whether a limit, where there is one, lies in that range.
+pub fn limit_in_reach(limit: Option<i64>) -> bool
     ensures { result ≡ limit_in_reach limit }
 {
-    match limit {
-        Some(x) => in_reach(x),
-        None => true,
-    }
+    limit.is_none_or(in_reach)
 }
 
 impl Tolerance {

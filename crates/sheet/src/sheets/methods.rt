@@ -4,8 +4,8 @@ ghost use Rattle.table.specs.Tables.{standing, capacity};
 ghost use Rattle.sheet.specs.Lists.{places_of};
 ghost use Rattle.sheet.specs.Sheets.{refusal_of, Added, lookup};
 
-use crate::check_places;
 use crate::sheets::Sheet;
+use crate::usable_places;
 use faults::{Fault, Refusal};
 use requirement::Requirement;
 use table::{Refused, Table};
@@ -27,10 +27,7 @@ impl<'a> Sheet<'a> {
         ensures same { result.table.places.ghost_name ≡ places.entry.ghost_name }
         ensures empty { (standing result.table ≡ []) × (capacity result.table ≡ places_of (length places.old)) }
     {
-        let limit = match check_places(places.len()) {
-            Ok(()) => places.len(),
-            Err(_) => 0,
-        };
+        let limit = usable_places(places.len());
         let table = Table::new(places, limit);
         Sheet { table }
     }

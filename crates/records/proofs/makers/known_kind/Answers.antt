@@ -4,7 +4,8 @@ use Rattle.std.proofs.lemmas.Int.{to_z-of_z}
 use Rattle.faults.specs.declared.Refusal.TheVariants.{OutOfRange}
 use Rattle.faults.specs.Faults.{AnswersBy}
 use Rattle.faults.specs.Ranges.{from_to, range_refusal}
-use Rattle.fields.specs.Answers.{said, fault_at}
+use Rattle.fields.specs.Answers.{said}
+use Rattle.text.specs.Faults.{fault_at}
 use Rattle.fields.specs.Values.{number_of}
 use Rattle.kinds.specs.Kinds.{known_kind, greatest_spread, kind_refusal, HasGiven}
 use Rattle.records.specs.Columns.{a_number}
