@@ -1,4 +1,4 @@
-use Rattle.std.proofs.Common.{◌∙◌, get_or, subst, arith, w64, SFits, rules}
+use Rattle.std.proofs.Common.{◌∙◌, subst, arith, w64, SFits, rules}
 use Rattle.std.proofs.lemmas.Int.{to_z-of_z}
 use Rattle.fields.specs.Values.{number_of}
 use Rattle.kinds.specs.Kinds.{spread_of}
