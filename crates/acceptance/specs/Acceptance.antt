@@ -5,6 +5,7 @@ use Rattle.faults.specs.declared.Refusal.{Refusal}
 use Rattle.faults.specs.declared.Refusal.TheVariants.{NoOffset, NothingAcceptable}
 use Rattle.faults.specs.Faults.{check, first_of}
 use Rattle.knowledge.specs.Knowledge.{Answers}
+use Rattle.requirement.specs.Limits.{within}
 use Rattle.requirement.specs.declared.rules.Rule.{Rule}
 use Rattle.requirement.specs.declared.rules.Rule.TheVariants.{Simple, Guard, Multiple, Shares}
 use Rattle.requirement.specs.declared.requirements.Requirement.{Requirement}
@@ -17,6 +18,10 @@ use Rattle.acceptance.specs.declared.search.Side.TheVariants.{Lower, Upper}
 -- each tolerance limit moved inwards by the width of the guard band
 abbrev pub guarded : Option ℤ → Option ℤ → ℤ → Acceptance
 guarded l u w = record { lower = option_map (λ x. x +ℤ w) l; upper = option_map (λ x. x -ℤ w) u }
+
+-- within the tolerance limits moved outwards by w, ends included
+abbrev pub widened : Option ℤ → Option ℤ → ℤ → ℤ → Bool
+widened l u w y = within (option_map (λ x. x -ℤ w) l) (option_map (λ x. x +ℤ w) u) y
 
 -- shares: the lower limit less the greatest offset whose ceiling stays within its share, the upper limit less the least
 -- offset whose floor reaches a million less its share; an absent limit has no acceptance limit

@@ -22,6 +22,10 @@ pub record LeastHundredth (z w : ℤ) : Type 0 where
 abbrev pub is_expanded : ℤ → Bool
 is_expanded x = from_to (pos 0) (pos 1000000) x
 
+-- a guard band's width lies from -2,000,000 to 2,000,000 steps, twice the greatest expanded uncertainty either way
+abbrev pub is_width : ℤ → Bool
+is_width w = from_to (neg_ℤ (pos 2000000)) (pos 2000000) w
+
 -- the width under each rule, for an expanded uncertainty; shares have no guard band
 abbrev pub width_of : Rule → ℤ → ℤ
 width_of Simple expanded = pos 0

@@ -7,6 +7,7 @@ mod moves;
 mod search;
 
 pub use bounds::Acceptance;
-pub use guard::{guard_width, is_expanded};
+pub use guard::GuardBand;
+pub use guard::methods::{guard_width, is_expanded};
 pub use moves::limits;
 pub use search::Side;

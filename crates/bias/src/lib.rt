@@ -14,6 +14,7 @@ use knowledge::{Knowledge, nearest_offset};
 pub const GREATEST_BIAS: i64 = 100_000;
 
 // A state of knowledge over another, for an instrument that reads `bias` steps too high.
+// No `Clone`: it is not derived for a generic struct with a ghost field, and nothing copies a layer.
 #[derive(Drop)]
 pub struct Biased<K> {
     below: K,
@@ -26,10 +27,7 @@ pub struct Biased<K> {
 pub fn check_bias(bias: i64) -> Result<(), Fault>
     ensures { AnswersBy (bias_refusal bias) result (λ _. Unit {0}) }
 {
-    if bias < -GREATEST_BIAS || bias > GREATEST_BIAS {
-        return Err(Fault::direct(Refusal::OutOfRange));
-    }
-    Ok(())
+    Refusal::OutOfRange.unless((-GREATEST_BIAS..=GREATEST_BIAS).contains(&bias))
 }
 
 impl<K: Knowledge> Biased<K> {
@@ -37,10 +35,7 @@ impl<K: Knowledge> Biased<K> {
     pub fn new(below: K, bias: i64) -> Self
         ensures { (result.below ≡ below) × (result.bias ≡ kept bias) }
     {
-        let bias = match check_bias(bias) {
-            Ok(()) => bias,
-            Err(_) => 0,
-        };
+        let bias = if check_bias(bias).is_ok() { bias } else { 0 };
         Biased { below, bias }
     }
 

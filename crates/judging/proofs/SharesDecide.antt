@@ -12,7 +12,7 @@ use Rattle.knowledge.specs.Distributions.{Distribution, Admitted}
 use Rattle.knowledge.proofs.Witnesses.{over_million, is_admitted, floor_is_between, ceiling_is_between}
 use Rattle.requirement.specs.Limits.{in_reach, limit_in_reach, not_below, not_above, within}
 use Rattle.acceptance.specs.Search.{first_below, offset_at, keeps_share}
-use Rattle.acceptance.specs.Acceptance.{share_limit, both_limits}
+use Rattle.acceptance.specs.Acceptance.{widened, share_limit, both_limits}
 use Rattle.acceptance.specs.declared.bounds.Acceptance.{Acceptance}
 use Rattle.acceptance.specs.declared.search.Side.{Side}
 use Rattle.acceptance.specs.declared.search.Side.TheVariants.{Lower, Upper}
@@ -21,7 +21,7 @@ use Rattle.requirement.specs.declared.requirements.Requirement.{Requirement}
 use Rattle.requirement.specs.declared.rules.Mode.{Mode}
 use Rattle.requirement.specs.declared.rules.Mode.TheVariants.{Two, Four}
 use Rattle.judging.specs.declared.answers.Verdict.TheVariants.{Pass, ConditionalPass, ConditionalFail, Fail}
-use Rattle.judging.specs.Verdicts.{accepts, widened, not_accepted, verdict_by}
+use Rattle.judging.specs.Verdicts.{accepts, not_accepted, verdict_by}
 use Rattle.judging.specs.Guarantee.{beyond, SharesDecide}
 use Rattle.judging.proofs.BracketHolds.{offset_of}
 

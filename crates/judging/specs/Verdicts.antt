@@ -1,6 +1,5 @@
 -- Verdicts, and what judging answers or refuses.
-use Rattle.std.specs.Prelude.{Bool, false, cond, ℤ, ◌+ℤ◌, ◌-ℤ◌, Some, None, Option}
-use Rattle.std.specs.Option.{option_map}
+use Rattle.std.specs.Prelude.{Bool, false, cond, ℤ, Some, None, Option}
 use Rattle.faults.specs.declared.Refusal.{Refusal}
 use Rattle.faults.specs.Faults.{first_of}
 use Rattle.knowledge.specs.Knowledge.{Answers}
@@ -10,7 +9,7 @@ use Rattle.requirement.specs.declared.rules.Mode.TheVariants.{Two, Four}
 use Rattle.requirement.specs.declared.requirements.Requirement.{Requirement}
 use Rattle.acceptance.specs.declared.bounds.Acceptance.{Acceptance}
 use Rattle.acceptance.specs.Guard.{width_of}
-use Rattle.acceptance.specs.Acceptance.{acceptance, limits_refusal}
+use Rattle.acceptance.specs.Acceptance.{widened, acceptance, limits_refusal}
 use Rattle.judging.specs.Brackets.{reading_refusal, bracketed}
 use Rattle.judging.specs.declared.answers.Verdict.{Verdict}
 use Rattle.judging.specs.declared.answers.Verdict.TheVariants.{Pass, ConditionalPass, ConditionalFail, Fail}
@@ -20,10 +19,6 @@ use Rattle.judging.specs.declared.answers.Judgement.{Judgement}
 abbrev pub accepts : Option Acceptance → ℤ → Bool
 accepts None y = false
 accepts (Some a) y = within a.lower a.upper y
-
--- the tolerance limits moved outwards by w, ends included
-abbrev pub widened : Option ℤ → Option ℤ → ℤ → ℤ → Bool
-widened l u w y = within (option_map (λ x. x -ℤ w) l) (option_map (λ x. x +ℤ w) u) y
 
 -- what is said of a reading that is not accepted: two verdicts tell no more, four tell how far it lies out
 abbrev pub not_accepted : Mode → Option ℤ → Option ℤ → ℤ → ℤ → Verdict

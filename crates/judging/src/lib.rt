@@ -80,8 +80,8 @@ pub fn judge<K: Knowledge>(
     ensures { AnswersBy (judge_refusal requirement.now expanded reading (K.answers knowledge.now)) result (λ j. (j ≡ judged requirement.now expanded reading (K.answers knowledge.now)) × JudgementHolds (K.answers knowledge.now) requirement.now reading j) }
 {
     let bracket = bracket(requirement, reading, knowledge)?;
-    let width = guard_width(requirement, expanded)?;
+    let band = guard_width(requirement, expanded)?;
     let acceptance = limits(requirement, expanded, knowledge)?;
-    let verdict = verdict_on(requirement, &acceptance, width, reading);
+    let verdict = verdict_on(requirement, &acceptance, band, reading);
     Ok(Judgement { verdict, bracket })
 }

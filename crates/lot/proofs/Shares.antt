@@ -51,7 +51,7 @@ minus_plus a s =
       greater = back a.greater s.greater i;
     }
 
-true_from : (b : Bool) → T b → b ≡ true
+pub true_from : (b : Bool) → T b → b ≡ true
 true_from true t = refl
 true_from false t = absurd t
 

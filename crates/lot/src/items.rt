@@ -1,5 +1,5 @@
 // What a lot stores of an item, and what it keeps for each class.
-use judging::Judgement;
+use judging::{Bracket, Judgement, Verdict};
 
 // What is entered of an item, with any values; `expanded` is the expanded uncertainty of its reading.
 #[derive(Clone, Copy)]
@@ -19,6 +19,23 @@ pub struct Item {
     pub characteristic: u8,
     pub reading: i64,
     pub judgement: Judgement,
+}
+
+impl Item {
+    // What holds a place of the list until a lot uses it; no call answers it.
+    pub const UNUSED: Item = Item {
+        number: 0,
+        class: 0,
+        characteristic: 0,
+        reading: 0,
+        judgement: Judgement {
+            verdict: Verdict::Fail,
+            bracket: Bracket {
+                floor: 0,
+                ceiling: 0,
+            },
+        },
+    };
 }
 
 // The row of one class: how many items have each verdict and, over the passes, the sums of the least and of the greatest

@@ -43,7 +43,7 @@ impl Row {
         }
     }
 
-    // Whether the row counts no item.
+    // Whether the row counts no item. The four counts alone say so, and the sums do not take part, so this is no `== Row::EMPTY`.
     pub fn is_empty(&self) -> bool
         ensures { result ≡ counts_none self.now }
     {

@@ -34,9 +34,6 @@ module _ (l : Lot) (n : ℤ) where
   in_turn : (r : Result (Unit {0}) Fault) → AnswersBy (first_of (number_refusal n) (check stood NoItem None)) r Nothing → AnswersBy (strike_refusal (numbers l) n) r Nothing
   in_turn r a = subst (λ (o : Option Refusal). AnswersBy o r Nothing) (sym (struck_in_turn (numbers l) n)) a
 
-  pub not_a_number : (e : Fault) → AnswersBy (number_refusal n) (Err e) Nothing → Struck l n (Err e) l
-  not_a_number e a = record { answer = in_turn (Err e) (refuses_first Nothing Nothing (number_refusal n) (check stood NoItem None) e a); change = (refl, refl); same_room = refl }
-
   module _ (l' : Lot) (number : AnswersBy (number_refusal n) (Ok tt) Nothing) (keeps : room l' ≡ room l) where
     pub none_out : (Stands (λ e. e.number) (items l) (nat_abs n) → ⊥) → Unchanged l l' → Struck l n (Err (direct NoItem)) l'
     none_out absent same =

@@ -22,7 +22,8 @@ use Rattle.judging.specs.Brackets.{reading_refusal, floor_between, ceiling_betwe
 use Rattle.judging.specs.Verdicts.{judge_refusal, judged, verdict_by}
 use Rattle.judging.specs.declared.answers.Judgement.{Judgement}
 use Rattle.lot.specs.Book.{requirement_for}
-use Rattle.lot_run.specs.Grades.{grade_row, grade}
+use Rattle.figures.specs.Grades.{grade_row}
+use Rattle.lot_run.specs.Grades.{grade}
 use Rattle.lot_run.specs.Worked.{passed_at}
 
 R100 : Rules (rectangular 100)

@@ -19,7 +19,8 @@ use Rattle.lot.specs.declared.items.ItemFields.{ItemFields}
 use Rattle.lot.specs.declared.items.Row.{Row}
 use Rattle.lot_calls.specs.Guarantee.{StandsAfter, EntersOn, StrikesOn, ShowsOn, TalliesOn}
 use Rattle.lot_calls.specs.declared.lots.Lot.{Lot}
-use Rattle.lot_run.specs.Grades.{grade_row, GradeSheet, grade}
+use Rattle.figures.specs.Grades.{grade_row}
+use Rattle.lot_run.specs.Grades.{GradeSheet, grade}
 use Rattle.lot_run.specs.Worked.{passed_at, passes_alone}
 use Rattle.lot_run.proofs.Judging.{first_judged, second_judged}
 use Rattle.lot_run.proofs.Steps.{Kept, at_first, said, entering, entering_refused, striking, showing, tallying, RowFor}

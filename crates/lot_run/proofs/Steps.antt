@@ -20,7 +20,8 @@ use Rattle.lot.specs.declared.items.Row.{Row}
 use Rattle.lot_calls.specs.Lots.{JudgedBy}
 use Rattle.lot_calls.specs.Guarantee.{Keeps, StandsAfter, EntersOn, StrikesOn, ShowsOn, TalliesOn}
 use Rattle.lot_calls.specs.declared.lots.Lot.{Lot}
-use Rattle.lot_run.specs.Grades.{grade_row, grade, grade_note}
+use Rattle.figures.specs.Grades.{grade_row}
+use Rattle.lot_run.specs.Grades.{grade, grade_note}
 use Rattle.lot_run.proofs.Judging.{found}
 
 -- after some calls, these notes are the book of two places that the lot keeps

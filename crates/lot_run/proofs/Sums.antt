@@ -13,7 +13,8 @@ use Rattle.lot.specs.Risks.{Choice, at_risk, all_parts, all_risk, SumsHold}
 use Rattle.lot.specs.Rows.{row_of}
 use Rattle.lot.specs.declared.items.Item.{Item}
 use Rattle.lot.specs.declared.items.Row.{Row}
-use Rattle.lot_run.specs.Grades.{grade_row, grade, grade_note}
+use Rattle.figures.specs.Grades.{grade_row}
+use Rattle.lot_run.specs.Grades.{grade, grade_note}
 use Rattle.lot_run.specs.Worked.{passed_at, passes_alone, above, Bounds}
 use Rattle.lot_run.proofs.Judging.{of_row, first_judged, second_judged}
 

@@ -14,7 +14,8 @@ use Rattle.judging.specs.declared.answers.Verdict.TheVariants.{Pass}
 use Rattle.lot.specs.Notes.{item_of}
 use Rattle.lot.specs.Risks.{SumsHold}
 use Rattle.lot.specs.declared.items.Row.{Row}
-use Rattle.lot_run.specs.Grades.{grade_row, grade, grade_note}
+use Rattle.figures.specs.Grades.{grade_row}
+use Rattle.lot_run.specs.Grades.{grade, grade_note}
 use Rattle.lot_run.specs.declared.worked.WorkedLot.{WorkedLot}
 
 -- a pass whose floor and ceiling are the same

@@ -6,9 +6,10 @@ ghost use Rattle.lot_calls.specs.Guarantee.{StandsAfter};
 ghost use Rattle.lot_run.specs.Grades.{GradeSheet};
 ghost use Rattle.lot_run.specs.Worked.{Worked};
 
-use crate::grades::{grade, grade_requirement};
+use crate::grades::grade;
 use faults::Fault;
-use judging::{Bracket, Judgement, Verdict};
+use figures::grade_requirement;
+use judging::Judgement;
 use lot::{Item, Row};
 use lot_calls::Lot;
 use rectangular::Rectangular;
@@ -53,21 +54,6 @@ fn worked_on(
     })
 }
 
-// An item that holds a place of the list until a lot uses it.
-const UNUSED: Item = Item {
-    number: 0,
-    class: 0,
-    characteristic: 0,
-    reading: 0,
-    judgement: Judgement {
-        verdict: Verdict::Fail,
-        bracket: Bracket {
-            floor: 0,
-            ceiling: 0,
-        },
-    },
-};
-
 // The lot and its sheet, over lists of their own; no call fails but the one that enters an item again.
 pub fn worked_lot() -> Result<WorkedLot, Fault>
     ensures { AnswersBy None result Worked }
@@ -77,7 +63,7 @@ pub fn worked_lot() -> Result<WorkedLot, Fault>
     let mut requirements = [requirement];
     let mut sheet = Sheet::new(&mut requirements);
     sheet.add(requirement)?;
-    let mut places = [UNUSED; 2];
+    let mut places = [Item::UNUSED; 2];
     let mut lot = Lot::new(&mut places);
     worked_on(&mut lot, &sheet, &knowledge)
 }

@@ -12,6 +12,7 @@ ghost use Rattle.normal.specs.Rules.{normal_rules};
 
 use faults::{Fault, Refusal};
 use knowledge::{Knowledge, MILLION, nearest_offset};
+use std::cmp::Ordering;
 pub use table::{Chord, chord_over};
 
 // The greatest standard uncertainty, in steps.
@@ -42,9 +43,7 @@ impl Normal {
     pub fn new(standard_uncertainty: i64) -> Result<Self, Fault>
         ensures { AnswersBy (range_refusal (pos 1) (pos 100000) standard_uncertainty) result (λ k. pos k.standard_uncertainty ≡ standard_uncertainty) }
     {
-        if standard_uncertainty < 1 || standard_uncertainty > WIDEST {
-            return Err(Fault::direct(Refusal::OutOfRange));
-        }
+        Refusal::OutOfRange.unless((1..=WIDEST).contains(&standard_uncertainty))?;
         Ok(Normal {
             standard_uncertainty: standard_uncertainty as u32,
         })
@@ -58,6 +57,7 @@ impl Normal {
     }
 
     // The chord's height at this many steps above the reading, in millionths, multiplied by the standard uncertainty; none past the table.
+    #[tactic(auto, using(crate::proofs::Answered::capped))]
     fn height(&self, steps: u64) -> Option<u64>
         requires { steps ≤ 2000000 }
         ensures { HeightAt self.now.standard_uncertainty steps result }
@@ -69,6 +69,7 @@ impl Normal {
     }
 
     // Floor and ceiling at this many steps above the reading.
+    #[tactic(auto, using(crate::proofs::Answered::between))]
     fn above(&self, steps: u64) -> (u32, u32)
         requires { steps ≤ 2000000 }
         ensures { (result.0 ≡ floor_above self.now.standard_uncertainty steps) × (result.1 ≡ ceiling_above self.now.standard_uncertainty steps) }
@@ -90,14 +91,11 @@ impl Knowledge for Normal {
 
     fn at_most(&self, offset: i64) -> (u32, u32) {
         let offset = nearest_offset(offset);
-        if offset == 0 {
-            return (HALF, HALF);
-        }
-        let (floor, ceiling) = self.above(offset.unsigned_abs());
-        if offset > 0 {
-            (floor, ceiling)
-        } else {
-            mirrored(floor, ceiling)
+        let distance = offset.unsigned_abs();
+        match offset.cmp(&0) {
+            Ordering::Less => mirrored(self.above(distance)),
+            Ordering::Equal => (HALF, HALF),
+            Ordering::Greater => self.above(distance),
         }
     }
 
@@ -107,9 +105,10 @@ impl Knowledge for Normal {
 }
 
 // Floor and ceiling at an offset from those at its mirror image about the reading.
-fn mirrored(floor: u32, ceiling: u32) -> (u32, u32)
-    requires { (floor ≤ 1000000) × (ceiling ≤ 1000000) }
-    ensures { (result.0 ≡ million - ceiling) × (result.1 ≡ million - floor) }
+fn mirrored(image: (u32, u32)) -> (u32, u32)
+    requires { (image.0 ≤ 1000000) × (image.1 ≤ 1000000) }
+    ensures { (result.0 ≡ million - image.1) × (result.1 ≡ million - image.0) }
 {
+    let (floor, ceiling) = image;
     (MILLION - ceiling, MILLION - floor)
 }

@@ -21,6 +21,7 @@ pub struct Chord {
 }
 
 // The chord over the tenth of this number; none from the fortieth on, where the table ends.
+#[tactic(auto, using(crate::specs::Values::next))]
 pub fn chord_over(tenth: u64) -> Option<Chord>
     ensures { MatchOption result (40 ≤ tenth) (λ c. ChordOver tenth c.start c.rise) }
 {

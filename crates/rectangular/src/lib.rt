@@ -26,9 +26,7 @@ impl Rectangular {
     pub fn new(half_width: i64) -> Result<Self, Fault>
         ensures { AnswersBy (range_refusal (pos 1) (pos 400000) half_width) result (λ k. pos k.half_width ≡ half_width) }
     {
-        if half_width < 1 || half_width > WIDEST {
-            return Err(Fault::direct(Refusal::OutOfRange));
-        }
+        Refusal::OutOfRange.unless((1..=WIDEST).contains(&half_width))?;
         Ok(Rectangular {
             half_width: half_width as u32,
         })

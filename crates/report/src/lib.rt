@@ -5,7 +5,6 @@ ghost use Rattle.std.specs.Prelude.{IfOk};
 ghost use Rattle.report.specs.Output.{OutputFor};
 
 use answers::push_classes;
-use judging::{Bracket, Judgement, Verdict};
 use lines::Line;
 use lot::Item;
 use lot_calls::Lot;
@@ -17,7 +16,7 @@ use std::alloc::{AllocError, Global};
 mod answers;
 mod reading;
 
-// What the places of the sheet and the lot hold while they are not used; no call answers it.
+// What the places of the sheet hold while they are not used; no call answers it.
 const UNUSED_ROW: RequirementRow = RequirementRow {
     class: 1,
     characteristic: 1,
@@ -27,20 +26,6 @@ const UNUSED_ROW: RequirementRow = RequirementRow {
     first: 0,
     second: 0,
     mode: 2,
-};
-
-const UNUSED_ITEM: Item = Item {
-    number: 0,
-    class: 1,
-    characteristic: 1,
-    reading: 0,
-    judgement: Judgement {
-        verdict: Verdict::Fail,
-        bracket: Bracket {
-            floor: 0,
-            ceiling: 0,
-        },
-    },
 };
 
 fn unused_requirement() -> Requirement {
@@ -55,7 +40,7 @@ pub fn report(heap: Global, text: &[u8]) -> Result<Vec<u8>, AllocError>
     ensures { IfOk result (λ v. OutputFor text.now v.items) }
 {
     let mut requirements = [unused_requirement(); 100];
-    let mut items = [UNUSED_ITEM; 1_000];
+    let mut items = [Item::UNUSED; 1_000];
     let mut sheet = Sheet::new(&mut requirements);
     let mut lot = Lot::new(&mut items);
     let mut out = Vec::new(heap);

@@ -4,14 +4,12 @@ use lib.ListN.{length-map}
 use Rattle.std.specs.List.{flat_map, AllByRecursion}
 use Rattle.std.proofs.ByRecursion.{All-push}
 use Rattle.std.proofs.lemmas.List.{flat_map_more, map_push, length_push, take_all}
-use Rattle.faults.specs.declared.Refusal.{Refusal}
 use Rattle.text.specs.declared.field.Placed.{Placed}
 use Rattle.text.specs.declared.machine.Ending.{Ending}
 use Rattle.text.specs.declared.machine.Ending.TheVariants.{Comma, Line, Text}
 use Rattle.text.specs.Fronts.{form, forms, Numbered, laid, Ended, Leads}
 use Rattle.text.specs.Grammar.{COMMA, CR, LF, Form, IsField, spelling, spelled_record}
-use Rattle.text.specs.Offences.{Offence}
-use Rattle.text.specs.Records.{Begins, Breaks}
+use Rattle.text.specs.Records.{Begins}
 use Rattle.text.proofs.Rows.{after_comma, before_comma}
 
 -- record n: the fields ps, k of them, stand at the front of bs, and `rest` is left
@@ -41,15 +39,7 @@ ended_row Comma sr after tail bs which h is = absurd (⊎_elim (λ e. let z : �
 ended_row Line sr after tail bs which h is = inl (is ∙ ap (λ t. sr ++ t) h)
 ended_row Text sr after tail bs which h is = inr (is ∙ ap (λ t. sr ++ t) h.0 ∙ append-nil sr, h.1)
 
--- before the first field
-pub none_yet : (n : ℕ) (bs : List ℕ) → Sofar n 0 [] bs bs
-none_yet n bs = record { are_fields = tt; numbered = tt; count = refl; room = omega arith; spelt = refl }
-
 module _ (n k : ℕ) (ps : List Placed) (rest bs : List ℕ) (so : Sofar n k ps rest bs) where
-  -- the next field offends
-  pub breaks_here : (e : Refusal) → Offence e rest → Breaks e (k + 1) bs
-  breaks_here e wrong = record { before = forms ps; are_fields = so.are_fields; counted = omega (arith, so.count, length-map ps (λ q. form q.content)); wrong = rest; spelt = so.spelt; offence = wrong }
-
   module _ (p : Placed) (e : Ending) (after : List ℕ) (is : p.«record» ≡ n) (at : p.field ≡ k + 1) (leads : Leads (form p.content) e after rest) where
     all_fields : AllByRecursion IsField (forms (ps ++ p ∷ []))
     all_fields = subst (AllByRecursion IsField) (sym (map_push (λ q. form q.content) ps p)) (All-push IsField (forms ps) (form p.content) so.are_fields leads.is_field)
@@ -68,7 +58,7 @@ module _ (n k : ℕ) (ps : List Placed) (rest bs : List ℕ) (so : Sofar n k ps 
       rest_is : rest ≡ spelling (form p.content) ++ COMMA ∷ after
       rest_is = leads.spelt ∙ ap (λ t. spelling (form p.content) ++ t) (subst (λ x. Ended x after leads.tail) c leads.ended)
 
-      pub shorter : length after < length rest
+      shorter : length after < length rest
       shorter = omega (arith, simp length-append at (ap length rest_is))
 
       pub one_more : Sofar n (k + 1) (ps ++ p ∷ []) after bs
@@ -96,15 +86,15 @@ module _ (n k : ℕ) (ps : List Placed) (rest bs : List ℕ) (so : Sofar n k ps 
     }
 
 -- nothing changes where no field is laid over the caller's list
-pub laid_none : (old : List Placed) → old ≡ laid [] old
+laid_none : (old : List Placed) → old ≡ laid [] old
 laid_none old = ap (λ ps. ps ++ old) (sym (take_all (length old) [] (omega arith)))
 
 -- one more field in it, where it reaches so far
-pub laid_push : (ps : List Placed) (p : Placed) (old : List Placed) → set (laid ps old) (length ps) p ≡ laid (ps ++ p ∷ []) old
+laid_push : (ps : List Placed) (p : Placed) (old : List Placed) → set (laid ps old) (length ps) p ≡ laid (ps ++ p ∷ []) old
 laid_push [] p [] = refl
 laid_push [] p (q ∷ old) = ap (λ qs. p ∷ qs) (laid_none old)
 laid_push (r ∷ ps) p [] = refl
 laid_push (r ∷ ps) p (q ∷ old) = ap (λ qs. r ∷ qs) (laid_push ps p old)
 
-pub laid_on : (ps : List Placed) (p q : Placed) (k : ℕ) (old new last : List Placed) → new ≡ laid ps old → k ≡ length ps → q ≡ p → last ≡ set new k q → last ≡ laid (ps ++ p ∷ []) old
-laid_on ps p q k old new last is count same put = put ∙ (λ i. set (is i) (count i) (same i)) ∙ laid_push ps p old
+pub laid_on : (ps : List Placed) (p : Placed) (k : ℕ) (old new last : List Placed) → new ≡ laid ps old → k ≡ length ps → last ≡ set new k p → last ≡ laid (ps ++ p ∷ []) old
+laid_on ps p k old new last is count put = put ∙ (λ i. set (is i) (count i) p) ∙ laid_push ps p old

@@ -1,7 +1,6 @@
 -- What each step of the machine does to the bytes read so far.
-use Rattle.std.proofs.Common.{◌≡◌, ℕ, ◌<◌, Bool, true, false, List, [], ◌∷◌, ◌++◌, length, sym, refl, ap, ◌∙◌, subst, append_assoc, arith, length-append}
+use Rattle.std.proofs.Common.{◌≡◌, ℕ, ◌<◌, Bool, true, false, List, [], ◌∷◌, ◌++◌, length, sym, refl, ap, ◌∙◌, subst, append_assoc, arith}
 use Rattle.std.specs.List.{AllByRecursion}
-use Rattle.std.proofs.ByRecursion.{All-push}
 use Rattle.faults.specs.declared.Refusal.TheVariants.{BrokenQuotes, StrayByte}
 use Rattle.text.specs.declared.machine.State.{State}
 use Rattle.text.specs.declared.machine.State.TheVariants.{Start, Bare, Quoted, AfterQuote}
@@ -42,10 +41,6 @@ plain Start n m bs h = subst (AllByRecursion TEXTDATA) (sym h) tt
 plain Bare n m bs h = h.1
 plain Quoted n m bs h = absurd (n refl)
 plain AfterQuote n m bs h = absurd (m refl)
-
--- TEXTDATA goes on with a bare field
-pub bared : (s : State) (b : ℕ) → (s ≡ Quoted → ⊥) → (s ≡ AfterQuote → ⊥) → TEXTDATA b → (bs : List ℕ) → SoFar s bs → SoFar Bare (bs ++ b ∷ [])
-bared s b n m d bs h = (simp length-append (omega arith), All-push TEXTDATA bs b (plain s n m bs h) d)
 
 -- bytes that are not empty and all TEXTDATA begin with no quote, whatever follows
 unquoted_plain : (bs more : List ℕ) → 0 < length bs → AllByRecursion TEXTDATA bs → Unquoted (bs ++ more)

@@ -20,27 +20,26 @@ pub enum Ending {
     Text,
 }
 
-// What a byte does: it belongs to the field, ends it, or is refused.
+// What a byte does that is not refused: it belongs to the field, or ends it.
 #[derive(Clone, Copy)]
 pub enum Effect {
     On(State),
     Off(Ending),
-    Refused(Refusal),
 }
 
 // The step at a byte; `before_lf` tells whether a LF stands right after it.
-pub fn step(state: State, byte: u8, before_lf: bool) -> Effect
+pub fn step(state: State, byte: u8, before_lf: bool) -> Result<Effect, Refusal>
     ensures { Does state byte before_lf result }
 {
     match (state, byte) {
-        (State::Start, b'"') => Effect::On(State::Quoted),
-        (State::Quoted, b'"') => Effect::On(State::AfterQuote),
-        (State::AfterQuote, b'"') => Effect::On(State::Quoted),
-        (State::Quoted, _) => Effect::On(State::Quoted),
-        (_, b',') => Effect::Off(Ending::Comma),
-        (_, b'\r') if before_lf => Effect::Off(Ending::Line),
-        (State::AfterQuote, _) => Effect::Refused(Refusal::BrokenQuotes),
-        (_, b'"' | b'\r' | b'\n') => Effect::Refused(Refusal::StrayByte),
-        (_, _) => Effect::On(State::Bare),
+        (State::Start, b'"') => Ok(Effect::On(State::Quoted)),
+        (State::Quoted, b'"') => Ok(Effect::On(State::AfterQuote)),
+        (State::AfterQuote, b'"') => Ok(Effect::On(State::Quoted)),
+        (State::Quoted, _) => Ok(Effect::On(State::Quoted)),
+        (_, b',') => Ok(Effect::Off(Ending::Comma)),
+        (_, b'\r') if before_lf => Ok(Effect::Off(Ending::Line)),
+        (State::AfterQuote, _) => Err(Refusal::BrokenQuotes),
+        (_, b'"' | b'\r' | b'\n') => Err(Refusal::StrayByte),
+        (_, _) => Ok(Effect::On(State::Bare)),
     }
 }

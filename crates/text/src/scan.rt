@@ -22,14 +22,7 @@ pub struct Front<'a> {
 fn lf_at(text: &[u8], at: usize) -> bool
     ensures { Decides result ((cs : List ℕ) × (drop at text.now ≡ LF ∷ cs)) }
 {
-    at < text.len() && text[at] == b'\n'
-}
-
-// Whether a quoted field is not closed yet.
-fn is_open(state: State) -> bool
-    ensures { MatchBool result (state ≡ Quoted) (Complete state) }
-{
-    matches!(state, State::Quoted)
+    text.get(at) == Some(&b'\n')
 }
 
 // The field that these bytes are, where the machine stands in `state` after them.
@@ -37,8 +30,8 @@ fn whole<'a>(bytes: &'a [u8], state: State) -> Field<'a>
     requires { SoFar state bytes.now × Complete state }
     ensures { IsField (form result) × (spelling (form result) ≡ bytes.now) }
 {
-    match state {
-        State::AfterQuote => Field::Quoted(&bytes[1..bytes.len() - 1]),
+    match (state, bytes) {
+        (State::AfterQuote, [_, inner @ .., _]) => Field::Quoted(inner),
         _ => Field::Bare(bytes),
     }
 }
@@ -48,10 +41,9 @@ fn past<'a>(tail: &'a [u8], ending: Ending) -> &'a [u8]
     requires { (after : List ℕ) × Ended ending after tail.now }
     ensures { Ended ending result.now tail.now }
 {
-    match ending {
-        Ending::Comma => &tail[1..],
-        Ending::Line => &tail[2..],
-        Ending::Text => tail,
+    match (ending, tail) {
+        (Ending::Comma, [_, after @ ..]) | (Ending::Line, [_, _, after @ ..]) => after,
+        _ => tail,
     }
 }
 
@@ -75,17 +67,14 @@ pub fn scan<'a>(text: &'a [u8]) -> Result<Front<'a>, Refusal>
     ensures { MatchResult result (λ f. Leads (form f.field) f.ending f.rest.now text.now) (λ e. Offence e text.now) }
 {
     let mut state = State::Start;
-    let mut at = 0;
-    while at < text.len() {
-        match step(state, text[at], lf_at(text, at + 1)) {
+    for (at, byte) in text.iter().enumerate() {
+        match step(state, *byte, lf_at(text, at + 1))? {
             Effect::On(next) => state = next,
             Effect::Off(ending) => return Ok(cut(text, at, state, ending)),
-            Effect::Refused(refusal) => return Err(refusal),
         }
-        at += 1;
     }
-    if is_open(state) {
-        return Err(Refusal::BrokenQuotes);
+    match state {
+        State::Quoted => Err(Refusal::BrokenQuotes),
+        _ => Ok(cut(text, text.len(), state, Ending::Text)),
     }
-    Ok(cut(text, at, state, Ending::Text))
 }

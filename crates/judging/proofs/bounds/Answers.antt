@@ -1,4 +1,4 @@
-use Rattle.std.proofs.Common.{◌-ℤ◌, sym, arith}
+use Rattle.std.proofs.Common.{sym, arith}
 use Rattle.std.proofs.lemmas.Int.{ints, to_z-of_z}
 use Rattle.requirement.proofs.Reach.{both_ascend}
 use Rattle.judging.proofs.BracketHolds.{least_under_most}
@@ -13,16 +13,3 @@ overflow_sub-result g c =
     let before = both_ascend t.lower t.upper s.lower s.upper t.ascends (sym s.ensures) (sym s.ensures') in
     let under = least_under_most k rules s.lower s.upper c.args.reading before in
     grind (arith, ints, to_z-of_z, under)
-
-pub overflow_sub-result-in-Some-None : goal.overflow_sub-result-in-Some-None
-overflow_sub-result-in-Some-None g c =
-    let rules = g.met.K.Knowledge.rules c.args.knowledge.now in
-    let capped = rules.capped (c.in-Some-None.lower -ℤ c.args.reading) in
-    grind (arith, ints, to_z-of_z, capped)
-
-pub overflow_sub-result-in-Some-None-2 : goal.overflow_sub-result-in-Some-None-2
-overflow_sub-result-in-Some-None-2 g c =
-    let rules = g.met.K.Knowledge.rules c.args.knowledge.now in
-    let capped = rules.capped (c.in-Some-None.lower -ℤ c.args.reading) in
-    let ordered = rules.ordered (c.in-Some-None.lower -ℤ c.args.reading) in
-    grind (arith, ints, to_z-of_z, capped, ordered)

@@ -13,6 +13,7 @@ use faults::{Fault, Refusal};
 pub const LONGEST: usize = 65_536;
 
 // A record that was read: its number, counted from 1, and how many fields it has.
+// The fields themselves are in the caller's list: nothing is allocated here, and a record may have more fields than a list reaches.
 #[derive(Clone, Copy)]
 pub struct Record {
     pub number: u32,
@@ -26,22 +27,11 @@ struct Row<'a> {
     rest: &'a [u8],
 }
 
-// The field that comes after so many others of its record.
-fn numbered<'a>(content: Field<'a>, record: u32, before: u32) -> Placed<'a>
-    requires { before ≤ longest }
-    ensures { result ≡ record { content = content.entry; «record» = «record»; field = before + 1 } }
-{
-    Placed {
-        content,
-        record,
-        field: before + 1,
-    }
-}
-
 // Writes the field to its place in the list, if the list reaches so far.
 fn put<'a>(fields: &mut [Placed<'a>], at: usize, placed: Placed<'a>)
     ensures { fields.new ≡ slice_set fields.old at placed.entry }
 {
+    // Written through the slice's `get_mut`, the list is not known afterwards, and the proof does not close.
     if at < fields.len() {
         fields[at] = placed;
     }
@@ -54,20 +44,22 @@ fn walk<'a>(text: &'a [u8], number: u32, fields: &mut [Placed<'a>]) -> Result<Ro
     ensures { Split number text.now fields.old fields.new result }
 {
     let mut rest = text;
+    // Counted by hand: the count is part of the answer, as is what is left behind the last field, which no iterator of fields gives.
     let mut count = 0;
     loop {
-        let front = match scan(rest) {
-            Ok(front) => front,
-            Err(refusal) => {
-                return Err(Fault {
-                    refusal,
-                    record: number,
-                    field: count + 1,
-                });
-            }
+        let field = count + 1;
+        let front = scan(rest).map_err(|refusal| Fault {
+            refusal,
+            record: number,
+            field,
+        })?;
+        let placed = Placed {
+            content: front.field,
+            record: number,
+            field,
         };
-        put(fields, count as usize, numbered(front.field, number, count));
-        count += 1;
+        put(fields, count as usize, placed);
+        count = field;
         rest = front.rest;
         match front.ending {
             Ending::Comma => {}

@@ -1,26 +1,15 @@
-use Rattle.std.proofs.Common.{[], refl, arith}
-use Rattle.std.proofs.lemmas.List.{drop_all}
-use Rattle.text.proofs.Cuts.{goes_on, ends, offends, open_at_end}
+use Rattle.std.proofs.Common.{rules}
+use Rattle.std.proofs.lemmas.Result.{err_from_is_err_and}
+use Rattle.text.proofs.Cuts.{ends, offends, open_at_end}
 use Rattle.text.proofs.scan.scan.Goals as goal
 
-pub loop-at-preserved : goal.loop-at-preserved
-loop-at-preserved c = (omega arith, goes_on _ _ _ _ c.loop-at.invariant.1 c.loop-at-test.true c.lf_at.ensures _ c.in-On.ensures)
+pub returns-in_err-next : goal.returns-in_err-next
+returns-in_err-next c =
+    let p = err_from_is_err_and c.from_residual.result c.from_residual.ensures.1 in
+    rw (p.1, p.2) (offends _ _ _ _ c.loop-at.invariant c.loop-at-test.true c.lf_at.ensures _ c.in_err-next.ensures)
 
-pub cut-requires : goal.cut-requires
-cut-requires c =
-    let done = ends _ _ _ _ c.loop-at.invariant.1 c.loop-at-test.true c.lf_at.ensures _ c.in-Off.ensures in
-    record { within = c.loop-at.invariant.0; whole = (c.loop-at.invariant.1, done.0); ended = done.1 }
+pub cut-requires-clause-ended : goal.cut-requires-clause-ended
+cut-requires-clause-ended c = search (rules, ends)
 
-pub returns-in-Refused : goal.returns-in-Refused
-returns-in-Refused c = offends _ _ _ _ c.loop-at.invariant.1 c.loop-at-test.true c.lf_at.ensures _ c.in-Refused.ensures
-
-pub cut-requires-2 : goal.cut-requires-2
-cut-requires-2 c =
-    record {
-      within = c.loop-at.invariant.0;
-      whole = (c.loop-at.invariant.1, c.if-is_open.ensures);
-      ended = ([], (drop_all _ _ c.loop-at-test.false, refl));
-    }
-
-pub returns-then-is_open : goal.returns-then-is_open
-returns-then-is_open c = open_at_end _ _ _ c.if-is_open.ensures c.loop-at-test.false c.loop-at.invariant.1
+pub returns-in-Quoted : goal.returns-in-Quoted
+returns-in-Quoted c = search (rules, open_at_end)
