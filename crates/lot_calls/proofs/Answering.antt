@@ -1,12 +1,10 @@
 -- What each check of a lot's calls says.
-use Rattle.std.proofs.Common.{◌≡◌, ℕ, ◌+◌, ◌-◌, ◌<◌, ◌≤◌, Bool, true, not, ltb, List, [], ◌∷◌, map, length, get_or, ℤ, pos, nat_abs, Some, None, Ok, Err, Option, Result, sym, ap, ◌∙◌, subst, ⊎_elim, arith, w64, SFits}
-use Rattle.std.specs.List.{slice_get}
+use Rattle.std.proofs.Common.{◌≡◌, ℕ, ◌+◌, ◌-◌, ◌<◌, ◌≤◌, Bool, true, not, ltb, List, map, length, get_or, ℤ, pos, nat_abs, Some, None, Ok, Err, Option, Result, sym, ap, ◌∙◌, subst, arith, w64, SFits}
 use Rattle.std.proofs.lemmas.List.{length-map}
-use Rattle.std.proofs.lemmas.Option.{slice_get-get_or}
 use Rattle.std.proofs.lemmas.Int.{ints}
-use Rattle.std.proofs.lemmas.Bool.{cases_lt, lt-ltb, le-ltb, and_parts}
+use Rattle.std.proofs.lemmas.Bool.{lt-ltb, le-ltb, and_parts}
 use Rattle.faults.specs.Faults.{direct, AnswersBy}
-use Rattle.faults.specs.declared.Refusal.TheVariants.{NoPlace, OutOfRange, DuplicateItem, LotFull}
+use Rattle.faults.specs.declared.Refusal.TheVariants.{OutOfRange, DuplicateItem, LotFull}
 use Rattle.faults.proofs.Checks.{passed, failed, check_passed}
 use Rattle.requirement.proofs.Reach.{range_out, reach_out}
 use Rattle.requirement.specs.Requirements.{is_class}
@@ -16,10 +14,9 @@ use Rattle.knowledge.specs.Knowledge.{Answers}
 use Rattle.judging.specs.Verdicts.{judged, judge_refusal}
 use Rattle.judging.specs.Guarantee.{JudgementHolds}
 use Rattle.judging.specs.declared.answers.Judgement.{Judgement}
-use Rattle.table.proofs.Standing.{nth_at}
 use Rattle.acceptance.specs.Guard.{is_expanded}
 use Rattle.table.specs.Places.{Stands}
-use Rattle.lot.specs.Book.{is_number, is_named, in_range, show_refusal, tally_refusal, room_refusal, judged_refusal, stands}
+use Rattle.lot.specs.Book.{is_number, is_named, in_range, tally_refusal, room_refusal, judged_refusal, stands}
 use Rattle.lot.specs.Rows.{row_of}
 use Rattle.lot.specs.declared.items.Item.{Item}
 use Rattle.lot.specs.declared.items.ItemFields.{ItemFields}
@@ -27,21 +24,6 @@ use Rattle.lot.specs.declared.items.Row.{Row}
 use Rattle.lot_calls.specs.Lots.{JudgedBy}
 use Rattle.lot.proofs.Noted.{stands_has, absent_stands}
 use Rattle.lot.proofs.Shares.{NineTallied}
-
-module _ (items : List Item) (place : ℕ) where
-  abbrev Shown : Item → Type 0
-  Shown e = slice_get items place ≡ Some e
-
-  pub shown : (e : Item) → slice_get items place ≡ Some e → AnswersBy (show_refusal (length items) place) (Ok e) Shown
-  shown e at = passed Shown (ltb place (length items)) NoPlace None (Ok e) (lt-ltb place (length items) (nth_at items place e at).0) at
-
-  past_all : (xs : List Item) → slice_get xs place ≡ None → length xs ≤ place
-  past_all [] none = omega arith
-  past_all (x ∷ xs) none =
-      ⊎_elim (λ within. let there = slice_get-get_or (x ∷ xs) place x within in absurd (let z : ◌≡◌ {A = ℕ} 0 1 = cc in omega arith)) (λ past. past) (cases_lt place (length (x ∷ xs)))
-
-  pub not_shown : slice_get items place ≡ None → AnswersBy (show_refusal (length items) place) (Err (direct NoPlace)) Shown
-  not_shown none = failed Shown (ltb place (length items)) NoPlace None (le-ltb place (length items) (past_all items none))
 
 -- the row of a class that is in range
 pub class_tallied : (items : List Item) (rows : List Row) (d : Row) (c : ℤ) → NineTallied items rows → tally_refusal c ≡ None → get_or rows (nat_abs c - 1) d ≡ row_of (nat_abs c) items

@@ -1,5 +1,4 @@
 mod Tallies
-mod Making
 mod Answering
 mod Changing
 mod Carrying

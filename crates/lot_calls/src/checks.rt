@@ -1,36 +1,20 @@
-// What the calls of a lot refuse for their arguments alone, and how rows gain and lose a share.
-ghost use Rattle.std.specs.Prelude.{◌≡◌, ◌+◌, ◌≤◌, true};
+// What the calls of a lot refuse for their arguments alone, and the item that is stored.
+ghost use Rattle.std.specs.Prelude.{◌≡◌, true};
 ghost use Rattle.faults.specs.Faults.{AnswersBy};
-ghost use Rattle.faults.specs.Ranges.{from_to};
-ghost use Rattle.requirement.specs.Requirements.{is_class, is_characteristic};
-ghost use Rattle.lot.specs.Book.{is_number, is_named, in_range, fields_refusal, number_refusal, tally_refusal};
+ghost use Rattle.lot.specs.Book.{is_number, is_named, in_range, fields_refusal, number_refusal};
 ghost use Rattle.lot.specs.Notes.{item_of};
-ghost use Rattle.sheet.specs.Lists.{places_of};
 
 use acceptance::is_expanded;
 use faults::{Fault, Refusal};
 use judging::Judgement;
 use lot::{Item, ItemFields};
-use requirement::in_reach;
-use sheet::check_places;
+use requirement::{in_reach, is_characteristic, is_class};
 
 // Whether a number can be that of an item.
 pub(crate) fn is_number(value: i64) -> bool
     ensures { result ≡ is_number value }
 {
-    1 <= value && value <= 999_999_999
-}
-
-pub(crate) fn is_class(value: i64) -> bool
-    ensures { result ≡ is_class value }
-{
-    1 <= value && value <= 9
-}
-
-fn is_characteristic(value: i64) -> bool
-    ensures { result ≡ is_characteristic value }
-{
-    1 <= value && value <= 20
+    (1..=999_999_999).contains(&value)
 }
 
 // Whether number, class and characteristic are in range.
@@ -47,33 +31,18 @@ fn in_range(fields: &ItemFields) -> bool
     is_named(fields) && is_expanded(fields.expanded) && in_reach(fields.reading)
 }
 
+// Refuses fields of which one is out of range.
 pub(crate) fn check_fields(fields: &ItemFields) -> Result<(), Fault>
     ensures { AnswersBy (fields_refusal fields.now) result (λ _. Unit {0}) }
 {
-    if !in_range(fields) {
-        return Err(Fault::direct(Refusal::OutOfRange));
-    }
-    Ok(())
+    Refusal::OutOfRange.unless(in_range(fields))
 }
 
-// Whether the number can be that of an item.
+// Refuses a number that can be no item's.
 pub(crate) fn check_number(number: i64) -> Result<(), Fault>
     ensures { AnswersBy (number_refusal number) result (λ _. Unit {0}) }
 {
-    if !is_number(number) {
-        return Err(Fault::direct(Refusal::OutOfRange));
-    }
-    Ok(())
-}
-
-// Whether the number is a class.
-pub(crate) fn check_class(class: i64) -> Result<(), Fault>
-    ensures { AnswersBy (tally_refusal class) result (λ _. Unit {0}) }
-{
-    if !is_class(class) {
-        return Err(Fault::direct(Refusal::OutOfRange));
-    }
-    Ok(())
+    Refusal::OutOfRange.unless(is_number(number))
 }
 
 // The item with these fields, which are in range, and this judgement.
@@ -87,15 +56,5 @@ pub(crate) fn item_of(fields: &ItemFields, judgement: Judgement) -> Item
         characteristic: fields.characteristic as u8,
         reading: fields.reading,
         judgement,
-    }
-}
-
-// How many places a list gives: all of its own, but none where the check refuses it.
-pub(crate) fn usable_places(places: usize) -> usize
-    ensures { result ≡ places_of places }
-{
-    match check_places(places) {
-        Ok(()) => places,
-        Err(_) => 0,
     }
 }

@@ -2,6 +2,7 @@
 #![tactic(auto)]
 
 mod checks;
+mod class;
 mod lots;
 mod rows;
 

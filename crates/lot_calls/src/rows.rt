@@ -1,45 +1,15 @@
 // The rows of a lot, one for each class, and how they gain and lose an item's share.
-ghost use Rattle.std.specs.Prelude.{◌≡◌, ◌-◌, ◌≤◌, slice_set};
+ghost use Rattle.std.specs.Prelude.{◌≡◌, ◌-◌, slice_set};
 ghost use Rattle.lot.specs.Rows.{plus, minus};
 ghost use Rattle.lot_calls.specs.Sizes.{row_for, RowOfAtMost, Contains};
 
+use crate::class::Class;
 use lot::Row;
 
 // The row of each class from 1 to 9.
 #[derive(Clone, Copy)]
 pub struct Rows {
     by_class: [Row; 9],
-}
-
-// The row with the share of one more item.
-fn raised(row: Row, share: Row) -> Row
-    requires many { RowOfAtMost 10000 row }
-    requires one { RowOfAtMost 1 share }
-    ensures { result ≡ plus row share }
-{
-    Row {
-        passes: row.passes + share.passes,
-        conditional_passes: row.conditional_passes + share.conditional_passes,
-        conditional_fails: row.conditional_fails + share.conditional_fails,
-        fails: row.fails + share.fails,
-        lesser: row.lesser + share.lesser,
-        greater: row.greater + share.greater,
-    }
-}
-
-// The row without the share of an item that it counts.
-fn lowered(row: Row, share: Row) -> Row
-    requires { Contains row share }
-    ensures { result ≡ minus row share }
-{
-    Row {
-        passes: row.passes - share.passes,
-        conditional_passes: row.conditional_passes - share.conditional_passes,
-        conditional_fails: row.conditional_fails - share.conditional_fails,
-        fails: row.fails - share.fails,
-        lesser: row.lesser - share.lesser,
-        greater: row.greater - share.greater,
-    }
 }
 
 impl Rows {
@@ -49,32 +19,38 @@ impl Rows {
     };
 
     // The row of a class.
-    pub(crate) fn of(&self, class: u8) -> Row
-        requires first { 1 ≤ class }
-        requires last { class ≤ 9 }
-        ensures { result ≡ row_for self.now class }
+    pub(crate) fn of(&self, class: Class) -> Row
+        ensures { result ≡ row_for self.now class.number }
     {
-        self.by_class[usize::from(class) - 1]
+        self.by_class[class.place()]
     }
 
     // Adds the share of one more item to the row of its class, and leaves the others.
-    pub(crate) fn raise(&mut self, class: u8, share: Row)
-        requires first { 1 ≤ class }
-        requires last { class ≤ 9 }
-        requires many { RowOfAtMost 10000 (row_for self.old class) }
+    pub(crate) fn raise(&mut self, class: Class, share: Row)
+        requires many { RowOfAtMost 10000 (row_for self.old class.number) }
         requires one { RowOfAtMost 1 share }
-        ensures { self.new.by_class ≡ slice_set self.old.by_class (class - 1) (plus (row_for self.old class) share) }
+        ensures { self.new.by_class ≡ slice_set self.old.by_class (class.number - 1) (plus (row_for self.old class.number) share) }
     {
-        self.by_class[usize::from(class) - 1] = raised(self.of(class), share);
+        let row = &mut self.by_class[class.place()];
+        row.passes += share.passes;
+        row.conditional_passes += share.conditional_passes;
+        row.conditional_fails += share.conditional_fails;
+        row.fails += share.fails;
+        row.lesser += share.lesser;
+        row.greater += share.greater;
     }
 
     // Takes the share of an item from the row of its class, and leaves the others.
-    pub(crate) fn lower(&mut self, class: u8, share: Row)
-        requires first { 1 ≤ class }
-        requires last { class ≤ 9 }
-        requires counted { Contains (row_for self.old class) share }
-        ensures { self.new.by_class ≡ slice_set self.old.by_class (class - 1) (minus (row_for self.old class) share) }
+    pub(crate) fn lower(&mut self, class: Class, share: Row)
+        requires { Contains (row_for self.old class.number) share }
+        ensures { self.new.by_class ≡ slice_set self.old.by_class (class.number - 1) (minus (row_for self.old class.number) share) }
     {
-        self.by_class[usize::from(class) - 1] = lowered(self.of(class), share);
+        let row = &mut self.by_class[class.place()];
+        row.passes -= share.passes;
+        row.conditional_passes -= share.conditional_passes;
+        row.conditional_fails -= share.conditional_fails;
+        row.fails -= share.fails;
+        row.lesser -= share.lesser;
+        row.greater -= share.greater;
     }
 }

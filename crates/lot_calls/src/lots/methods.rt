@@ -1,4 +1,5 @@
-// Making a lot, and the calls on it.
+// Making a lot, and the calls on it. A clause `same` says that a call leaves the lot over the caller's own list, which is a fact of
+// before and after together, so that no field of the lot can hold it.
 ghost use Rattle.std.specs.Prelude.{◌≡◌, true, [], length, pos, Some, None, unsigned_abs};
 ghost use Rattle.std.specs.List.{slice_get};
 ghost use Rattle.faults.specs.Faults.{AnswersBy};
@@ -9,14 +10,15 @@ ghost use Rattle.lot_calls.specs.Lots.{items, numbers, room, class_row, JudgedBy
 ghost use Rattle.lot_calls.specs.Guarantee.{StandsAfter, EntersOn, StrikesOn, ShowsOn, TalliesOn};
 ghost use Rattle.lot.specs.Rows.{of_a_class};
 
-use crate::checks::{check_class, check_fields, check_number, item_of, usable_places};
+use crate::checks::{check_fields, check_number, item_of};
+use crate::class::Class;
 use crate::lots::Lot;
 use crate::rows::Rows;
 use faults::{Fault, Refusal};
 use judging::{Judgement, judge};
 use knowledge::Knowledge;
 use lot::{Item, ItemFields, Row};
-use sheet::Sheet;
+use sheet::{Sheet, usable_places};
 use table::Table;
 
 // The judgement of an item whose fields are in range, by the requirement that the sheet has for it.
@@ -28,10 +30,10 @@ fn judged_by<K: Knowledge>(
     requires { in_range fields.now ≡ true }
     ensures { AnswersBy (judged_refusal (requirement_for (standing sheet.now.table) fields.now) fields.now (K.answers knowledge.now)) result (JudgedBy (requirement_for (standing sheet.now.table) fields.now) fields.now (K.answers knowledge.now)) }
 {
-    match sheet.find(fields.class as u8, fields.characteristic as u8) {
-        Some(requirement) => judge(&requirement, fields.expanded, fields.reading, knowledge),
-        None => Err(Fault::direct(Refusal::NoRequirement)),
-    }
+    let requirement = sheet
+        .find(fields.class as u8, fields.characteristic as u8)
+        .ok_or(Fault::direct(Refusal::NoRequirement))?;
+    judge(&requirement, fields.expanded, fields.reading, knowledge)
 }
 
 impl<'a> Lot<'a> {
@@ -60,10 +62,7 @@ impl<'a> Lot<'a> {
         ensures outcome { AnswersBy (show_refusal (length (items self.now)) place) result (λ e. slice_get (items self.now) place ≡ Some e) }
         ensures run { ShowsOn self.now place result }
     {
-        match self.table.at(place) {
-            Some(item) => Ok(item),
-            None => Err(Fault::direct(Refusal::NoPlace)),
-        }
+        self.table.at(place).ok_or(Fault::direct(Refusal::NoPlace))
     }
 
     // The row of a class.
@@ -71,8 +70,8 @@ impl<'a> Lot<'a> {
         ensures outcome { AnswersBy (tally_refusal class) result (λ row. row ≡ class_row self.now (unsigned_abs class)) }
         ensures run { TalliesOn self.now class result }
     {
-        check_class(class)?;
-        Ok(self.rows.of(class as u8))
+        let class = Class::new(class)?;
+        Ok(self.rows.of(class))
     }
 
     // Whether there is room for an item of this number.
@@ -95,7 +94,8 @@ impl<'a> Lot<'a> {
         ensures keeps { room self.new ≡ room self.old }
     {
         let _ = self.table.insert(item);
-        self.rows.raise(item.class, Row::share_of(&item.judgement));
+        self.rows
+            .raise(Class::of(&item), Row::share_of(&item.judgement));
     }
 
     // Takes out the item of a number, and its share from the row of its class.
@@ -105,7 +105,8 @@ impl<'a> Lot<'a> {
         ensures keeps { room self.new ≡ room self.old }
     {
         let item = self.table.remove(number)?;
-        self.rows.lower(item.class, Row::share_of(&item.judgement));
+        self.rows
+            .lower(Class::of(&item), Row::share_of(&item.judgement));
         Some(item)
     }
 
@@ -134,9 +135,8 @@ impl<'a> Lot<'a> {
         ensures run { StrikesOn self.old number result self.new }
     {
         check_number(number)?;
-        match self.take_out(number as u32) {
-            Some(_) => Ok(()),
-            None => Err(Fault::direct(Refusal::NoItem)),
-        }
+        self.take_out(number as u32)
+            .ok_or(Fault::direct(Refusal::NoItem))?;
+        Ok(())
     }
 }
