@@ -1,4 +1,2 @@
 mod Places
 mod Signs
-mod Said
-mod Spoken

@@ -1,9 +1,9 @@
 -- What digits are worth by their places.
-use Rattle.std.proofs.Common.{◌≡◌, ℕ, ◌+◌, ◌-◌, ◌*◌, ◌^◌, ◌<◌, ◌≤◌, List, [], ◌∷◌, ◌++◌, length, get_or, take, sym, refl, ap, ◌∙◌, subst, mul-le-mul_right, mul_assoc, pow-suc, add-one, arith}
+use Rattle.std.proofs.Common.{◌≡◌, ℕ, ◌+◌, ◌-◌, ◌*◌, ◌^◌, ◌<◌, ◌≤◌, List, [], ◌∷◌, ◌++◌, length, get_or, take, sym, ap, ◌∙◌, mul-le-mul_right, mul_assoc, pow-suc, add-one, arith}
 use native.Mathlib.Nat.{pow-le-pow_right}
 use Rattle.std.specs.List.{AllByRecursion}
-use Rattle.std.proofs.ByRecursion.{All-more, All-get_or}
-use Rattle.std.proofs.lemmas.List.{take_more, length-take-le, length_push, take_all}
+use Rattle.std.proofs.ByRecursion.{All-more}
+use Rattle.std.proofs.lemmas.List.{take_more, length-take-le, length_push}
 use Rattle.fields.specs.Values.{Digit, Numeral, worth}
 
 value_push : (ds : List ℕ) (d : ℕ) → worth (ds ++ d ∷ []) ≡ 10 * worth ds + (d - 48)
@@ -23,9 +23,6 @@ pub record Sofar (v i : ℕ) (ds : List ℕ) : Type 0 where
   pub digits : AllByRecursion Digit (take i ds)
   pub is : v ≡ worth (take i ds)
 
-pub none_yet : (ds : List ℕ) → Sofar 0 0 ds
-none_yet ds = record { digits = tt; is = refl }
-
 module _ (v i : ℕ) (ds : List ℕ) (so : Sofar v i ds) (few : length ds ≤ 10) where
   pub small : i ≤ length ds → v < 10 ^ 10
   small le =
@@ -38,14 +35,6 @@ module _ (v i : ℕ) (ds : List ℕ) (so : Sofar v i ds) (few : length ds ≤ 10
         digits = All-more Digit ds i 0 lt so.digits d;
         is = ap (λ w. 10 * w + (get_or ds i 0 - 48)) so.is ∙ sym (value_push (take i ds) (get_or ds i 0)) ∙ ap worth (sym (take_more ds i 0 lt));
       }
-
-  pub all_read : length ds ≤ i → 1 ≤ length ds → Numeral ds × (v ≡ worth ds)
-  all_read past some =
-      let whole = take_all i ds past in
-      (record { some = some; few = few; digits = subst (AllByRecursion Digit) whole so.digits }, so.is ∙ ap worth whole)
-
-pub no_digit : (i : ℕ) (ds : List ℕ) → i < length ds → (Digit (get_or ds i 0) → ⊥) → Numeral ds → ⊥
-no_digit i ds lt n num = n (All-get_or Digit ds i 0 lt num.digits)
 
 pub numeral_small : (ds : List ℕ) → Numeral ds → worth ds < 10 ^ 10
 numeral_small ds num = omega (arith, value_below ds num.digits, pow-le-pow_right {n = 10} (omega arith) num.few)

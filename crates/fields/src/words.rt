@@ -1,20 +1,18 @@
 // Words.
-ghost use Rattle.std.specs.Prelude.{◌≡◌, ◌<◌, length, Decides};
+ghost use Rattle.std.specs.Prelude.{◌≡◌, [], ◌∷◌, Decides, MatchOption};
 ghost use Rattle.text.specs.Content.{singled};
 ghost use Rattle.fields.specs.Answers.{said};
-ghost use Rattle.fields.specs.Spoken.{SaysOne};
 
 use text::{Field, Placed};
 
-// How many bytes between quotes say one, from `at` on: two where a quote stands twice.
-fn width(bytes: &[u8], at: usize) -> usize
-    requires { at < length bytes.now }
-    ensures { SaysOne bytes.now at result }
+// The byte that bytes between quotes say first, and what stands after it. A quote that stands twice says one.
+fn first_said<'a>(bytes: &'a [u8]) -> Option<(u8, &'a [u8])>
+    ensures { MatchOption result (bytes.now ≡ []) (λ s. singled bytes.now ≡ s.0 ∷ singled s.1.now) }
 {
-    if at + 1 < bytes.len() && bytes[at] == b'"' && bytes[at + 1] == b'"' {
-        2
-    } else {
-        1
+    match bytes {
+        [b'"', b'"', rest @ ..] => Some((b'"', rest)),
+        [byte, rest @ ..] => Some((*byte, rest)),
+        [] => None,
     }
 }
 
@@ -22,14 +20,14 @@ fn width(bytes: &[u8], at: usize) -> usize
 fn quoted_says(bytes: &[u8], word: &[u8]) -> bool
     ensures { Decides result (singled bytes.now ≡ word.now) }
 {
-    let mut at = 0;
+    let mut rest = bytes;
     for letter in word {
-        if at >= bytes.len() || bytes[at] != *letter {
-            return false;
+        match first_said(rest) {
+            Some((said, after)) if said == *letter => rest = after,
+            _ => return false,
         }
-        at += width(bytes, at);
     }
-    at == bytes.len()
+    rest.is_empty()
 }
 
 // Whether the field says the word.

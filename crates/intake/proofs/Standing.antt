@@ -1,11 +1,10 @@
 -- What stands, whatever the order: the same requirement under each key, the same numbers and the same rows.
-use Rattle.std.proofs.Common.{◌≡◌, ℕ, zero, suc, ◌+◌, Bool, true, false, cond, ◌&&◌, ◌||◌, eqb, List, [], ◌∷◌, map, is_some, Some, Option, sym, refl, ap, ◌∙◌}
+use Rattle.std.proofs.Common.{◌≡◌, ℕ, zero, suc, ◌+◌, Bool, true, false, cond, ◌&&◌, ◌||◌, eqb, List, [], ◌∷◌, map, is_some, Some, Option, sym, refl, ap, ◌∙◌, arith}
 use Rattle.std.specs.List.{insert}
-use Rattle.std.proofs.lemmas.List.Sums.{sum_by-cons}
+use Rattle.std.proofs.lemmas.List.Sums.{sum_by-cons, sum_by-insert}
 use Rattle.std.proofs.lemmas.Bool.{true≢false, and_parts, and_from, eqb-true, eq-eqb}
 use Rattle.requirement.specs.declared.requirements.Requirement.{Requirement}
 use Rattle.sheet.specs.Sheets.{lookup}
-use Rattle.table.proofs.Contents.{sum_inserted}
 use Rattle.lot.specs.Book.{stands}
 use Rattle.lot.specs.Rows.{share_of, summed, row_of}
 use Rattle.lot.specs.declared.items.Item.{Item}
@@ -60,7 +59,7 @@ stands_inserted (x ∷ xs) (suc i) e k =
 pub row_inserted : (c : ℕ) (xs : List Item) (i : ℕ) (e : Item) → row_of c (insert xs i e) ≡ row_of c (e ∷ xs)
 row_inserted c xs i e =
     let step : (part : Row → ℕ) → summed part c (insert xs i e) ≡ summed part c (e ∷ xs) =
-    λ part. sum_inserted (λ x. cond (eqb x.class c) (part (share_of x.judgement)) 0) xs i e ∙ sym (sum_by-cons (λ x. cond (eqb x.class c) (part (share_of x.judgement)) 0) e xs) in
+    λ part. let f : Item → ℕ = λ x. cond (eqb x.class c) (part (share_of x.judgement)) 0 in omega (arith, sum_by-insert f xs i e, sum_by-cons f e xs) in
     cc (step (λ r. r.passes), step (λ r. r.conditional_passes), step (λ r. r.conditional_fails), step (λ r. r.fails), step (λ r. r.lesser), step (λ r. r.greater))
 
 -- one more item before others of the same rows

@@ -66,11 +66,11 @@ pub made_refused : (n : ℕ) (row : RequirementRow) (f : Fault) (sheet : Sheet) 
 made_refused n row f sheet a lot s holds = (s, not_made f.refusal (refused_as (HoldsRow row) (requirement_refusal row) f a), holds)
 
 -- a requirement that was not made leaves the table as it was
-pub made_none : (row : RequirementRow) (f : Fault) (t : Table Requirement) → AnswersBy (requirement_refusal row) (Err f) (HoldsRow row) → LeftByAdding row t t
+pub made_none : {entry ord eq partial : _} (row : RequirementRow) (f : Fault) (t : Table Requirement (ℕ × ℕ) entry ord eq partial) → AnswersBy (requirement_refusal row) (Err f) (HoldsRow row) → LeftByAdding row t t
 made_none row f t a = as_it_was f.refusal (refused_as (HoldsRow row) (requirement_refusal row) f a) refl
 
 -- one that was made leaves what adding it leaves
-pub made_one : (row : RequirementRow) (q : Requirement) (t t' : Table Requirement) (r : Result (Unit {0}) Fault) → AnswersBy (requirement_refusal row) (Ok q) (HoldsRow row) → Added t q r t' → LeftByAdding row t t'
+pub made_one : {entry ord eq partial : _} (row : RequirementRow) (q : Requirement) (t t' : Table Requirement (ℕ × ℕ) entry ord eq partial) (r : Result (Unit {0}) Fault) → AnswersBy (requirement_refusal row) (Ok q) (HoldsRow row) → Added t q r t' → LeftByAdding row t t'
 made_one row q t t' r made done = by_adding q r (no_refusal (HoldsRow row) (requirement_refusal row) q made) (its_value (HoldsRow row) (requirement_refusal row) q made) done
 
 module _ (sheet sheet' : Sheet) (lot : Lot) (q : Requirement) (s : State) (holds : Holds sheet lot s) where

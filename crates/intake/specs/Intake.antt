@@ -79,7 +79,7 @@ abbrev pub TakesIn : ℕ → Result Meaning Fault → Result Taken Fault → She
 TakesIn n meant r sheet lot sheet' lot' = Steps (λ s s'. Taking n meant s r s') sheet lot sheet' lot'
 
 -- what a record's requirement leaves of a sheet's table: it is as it was where none was made, else what adding the one made leaves
-pub data LeftByAdding (row : RequirementRow) (t t' : Table Requirement) : Type 0 where
+pub data LeftByAdding {entry ord eq partial : _} (row : RequirementRow) (t t' : Table Requirement (ℕ × ℕ) entry ord eq partial) : Type 0 where
   as_it_was : (e : Refusal) → requirement_refusal row ≡ Some e → t' ≡ t → LeftByAdding row t t'
   by_adding : (q : Requirement) (r : Result (Unit {0}) Fault) → requirement_refusal row ≡ None → HoldsRow row q → Adding-leaves t q r t' → LeftByAdding row t t'
 

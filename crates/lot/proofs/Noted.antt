@@ -1,14 +1,13 @@
 -- A lot's entries and its book: an entry put in, or taken out, where the numbers ascend is a note added, or struck.
-use Rattle.std.proofs.Common.{◌≡◌, ℕ, zero, suc, ◌<◌, ◌≤◌, Bool, true, false, ◌&&◌, T, eqb, ltb, List, [], ◌∷◌, map, length, get_or, Some, Ordering, Less, sym, refl, ap, ◌∙◌, subst, ⊎_elim, arith}
+use Rattle.std.proofs.Common.{◌≡◌, ℕ, zero, suc, ◌<◌, ◌≤◌, true, false, eqb, ltb, List, [], ◌∷◌, map, length, get_or, Some, sym, refl, ap, ◌∙◌, ⊎_elim, arith}
 use Rattle.std.specs.List.{slice_get, insert, remove, ContainsAt as Has}
-use Rattle.std.specs.Cmp.{ranks}
-use Rattle.std.specs.Ordering.{MatchOrdering, nat_cmp}
+use Rattle.std.specs.Ordering.{nat_cmp}
 use Rattle.std.proofs.lemmas.Bool.{true≢false, lt-ltb, le-ltb, eq-eqb, ne_eqb, eqb-true, cases_Bool, cond-true, cond-false, or_left, or_right, or_cases}
-use Rattle.std.proofs.lemmas.List.{length-map}
+use Rattle.std.proofs.lemmas.List.{length-map, get_or-map}
 use Rattle.std.proofs.lemmas.List.Edits.{length-insert, get_or-insert_at}
 use Rattle.table.specs.Keys.{Ascending}
-use Rattle.table.proofs.Ascents.{ascends}
-use Rattle.table.proofs.Standing.{nth_at}
+use Rattle.std.proofs.lemmas.Map.Keys.{below_from_sorted, sorted_tail}
+use Rattle.std.proofs.lemmas.Option.{slice_get_within, get_or_from_slice_get}
 use Rattle.lot.specs.Notes.{Note, stored}
 use Rattle.lot.specs.Book.{number_of, noted, struck, stands}
 use Rattle.lot.specs.declared.items.Item.{Item}
@@ -17,22 +16,16 @@ use Rattle.lot.specs.declared.items.Item.{Item}
 abbrev pub Rising : List Item → Type 0
 Rising items = Ascending (λ e. e.number) nat_cmp items
 
--- the test of two numbers, and what it says
-less_from : (a b : ℕ) → nat_cmp a b ≡ Less → a < b
-less_from a b e = subst (λ (o : Ordering). MatchOrdering o (a < b) (a ≡ b) (b < a)) e (ranks a b)
-
-both : (a b : Bool) → T (a && b) → T a × T b
-both true b t = (tt, t)
-both false b t = absurd t
-
 -- after the first entry the numbers go on rising
 tail_rises : (x : Item) (xs : List Item) → Rising (x ∷ xs) → Rising xs
-tail_rises x xs up = (both _ _ up).1
+tail_rises x xs up = sorted_tail nat_cmp x.number (map (λ e. e.number) xs) up
 
 -- the first entry's number is less than that of any later entry
 first_less : (x : Item) (xs : List Item) (j : ℕ) (d : Item) → Rising (x ∷ xs) → j < length xs → x.number < (get_or xs j d).number
 first_less x xs j d up within =
-    less_from x.number (get_or xs j d).number (ascends (λ e. e.number) nat_cmp (x ∷ xs) 0 (suc j) d up (omega arith) (omega arith))
+    let size = length-map xs (λ e. e.number) in
+    let less = below_from_sorted (map (λ e. e.number) (x ∷ xs)) 0 (suc j) d.number up (omega arith) (omega arith) in
+    simp (get_or-map (λ (e : Item). e.number) xs j d d.number within) at less
 
 -- an entry put in so that the numbers rise stands where the book has its note
 pub noted_at : (ns : List Note) (n : Note) (i : ℕ) → i ≤ length ns → Rising (insert (map stored ns) i (stored n)) → insert (map stored ns) i (stored n) ≡ map stored (noted n ns)
@@ -52,14 +45,13 @@ noted_at (m ∷ ms) n (suc i) within up =
 
 -- the entry of a number, taken out, is the number's note struck
 pub struck_at : (ns : List Note) (i : ℕ) (e : Item) → slice_get (map stored ns) i ≡ Some e → Rising (map stored ns) → remove (map stored ns) i ≡ map stored (struck e.number ns)
-struck_at [] i e at up = let here = nth_at [] i e at in absurd (omega (arith, here.0))
+struck_at [] i e at up = absurd (omega (arith, slice_get_within [] i e at))
 struck_at (m ∷ ms) zero e at up =
-    let here : number_of m ≡ e.number = ap (λ (x : Item). x.number) (nth_at (map stored (m ∷ ms)) zero e at).1 in
+    let here : number_of m ≡ e.number = ap (λ (x : Item). x.number) (get_or_from_slice_get (map stored (m ∷ ms)) zero e e at) in
     sym (ap (map stored) (cond-true (eqb (number_of m) e.number) ms (m ∷ struck e.number ms) (eq-eqb (number_of m) e.number here)))
 struck_at (m ∷ ms) (suc i) e at up =
-    let here = nth_at (map stored ms) i e at in
-    let less = first_less (stored m) (map stored ms) i e up here.0 in
-    let same = ap (λ (x : Item). x.number) here.1 in
+    let less = first_less (stored m) (map stored ms) i e up (slice_get_within (map stored ms) i e at) in
+    let same = ap (λ (x : Item). x.number) (get_or_from_slice_get (map stored ms) i e e at) in
     ap (λ es. stored m ∷ es) (struck_at ms i e at (tail_rises (stored m) (map stored ms) up))
     ∙ sym (ap (map stored) (cond-false (eqb (number_of m) e.number) ms (m ∷ struck e.number ms) (ne_eqb (number_of m) e.number (λ (q : number_of m ≡ e.number). omega arith))))
 

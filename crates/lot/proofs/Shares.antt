@@ -2,11 +2,10 @@
 use Rattle.std.proofs.Common.{◌≡◌, ℕ, zero, suc, ◌+◌, ◌-◌, ◌*◌, ◌≤◌, Bool, true, false, cond, ◌&&◌, T, eqb, leb, List, [], ◌∷◌, length, get_or, set, Some, sym, refl, ap, ◌∙◌, subst, ⊎_elim, add-mul, arith}
 use Rattle.std.specs.List.{slice_get, insert, remove}
 use Rattle.std.proofs.lemmas.List.{length-set, get_or-set_same, get_or-set_other}
-use Rattle.std.proofs.lemmas.List.Sums.{sum_by-cons}
+use Rattle.std.proofs.lemmas.List.Sums.{sum_by-cons, sum_by-insert, sum_by-remove}
 use Rattle.std.proofs.lemmas.Bool.{and_parts, leb-true, eq-eqb, ne_eqb, cond-true, cond-false, cases_eq}
 use Rattle.judging.specs.declared.answers.Judgement.{Judgement}
-use Rattle.table.proofs.Contents.{sum_inserted, sum_removed}
-use Rattle.table.proofs.Standing.{nth_at}
+use Rattle.std.proofs.lemmas.Option.{slice_get_within, get_or_from_slice_get}
 use Rattle.lot.specs.Rows.{share_of, plus, minus, summed, row_of, of_a_class, Classed, Tallied}
 use Rattle.lot.specs.declared.items.Item.{Item}
 use Rattle.lot.specs.declared.items.Row.{Row}
@@ -92,14 +91,16 @@ module _ (e : Item) (rows : List Row) (classed : T (of_a_class e)) where
   pub tallied_inserted : (xs : List Item) (i : ℕ) (d : Row) → NineTallied xs rows → NineTallied (insert xs i e) (set rows (e.class - 1) (plus (get_or rows (e.class - 1) d) (share_of e.judgement)))
   tallied_inserted xs i d tallied =
       let sums : (c : ℕ) (part : Row → ℕ) → summed part c (insert xs i e) ≡ cond (eqb e.class c) (part (share_of e.judgement)) 0 + summed part c xs =
-      λ c part. sum_inserted (λ x. cond (eqb x.class c) (part (share_of x.judgement)) 0) xs i e in
+      λ c part. omega (arith, sum_by-insert (λ x. cond (eqb x.class c) (part (share_of x.judgement)) 0) xs i e) in
       tallied_set xs (insert xs i e) (plus (get_or rows (e.class - 1) d) (share_of e.judgement)) tallied
       (ap (λ r. plus r (share_of e.judgement)) (row_at xs d tallied) ∙ sym (same_class e.class e xs (insert xs i e) (sums e.class) refl))
       (λ c other. other_class c e xs (insert xs i e) (sums c) other)
 
   module _ (xs : List Item) (i : ℕ) (at : slice_get xs i ≡ Some e) where
     removed_sums : (c : ℕ) (part : Row → ℕ) → summed part c xs ≡ cond (eqb e.class c) (part (share_of e.judgement)) 0 + summed part c (remove xs i)
-    removed_sums c part = sum_removed (λ x. cond (eqb x.class c) (part (share_of x.judgement)) 0) xs i e at
+    removed_sums c part =
+        let f : Item → ℕ = λ x. cond (eqb x.class c) (part (share_of x.judgement)) 0 in
+        omega (arith, sum_by-remove f xs i e (slice_get_within xs i e at), ap f (get_or_from_slice_get xs i e e at))
 
     -- the row of its class holds the share of an item that stands
     pub row_holds : row_of e.class xs ≡ plus (row_of e.class (remove xs i)) (share_of e.judgement)
@@ -141,6 +142,6 @@ classed_removed (x ∷ xs) zero h = (apart _ _ h).1
 classed_removed (x ∷ xs) (suc i) h = both _ _ (apart _ _ h).0 (classed_removed xs i (apart _ _ h).1)
 
 pub classed_at : (xs : List Item) (i : ℕ) (e : Item) → slice_get xs i ≡ Some e → Classed xs → T (of_a_class e)
-classed_at [] i e at h = absurd (omega (arith, (nth_at [] i e at).0))
-classed_at (x ∷ xs) zero e at h = subst (λ (w : Item). T (of_a_class w)) (nth_at (x ∷ xs) zero e at).1 (apart _ _ h).0
+classed_at [] i e at h = absurd (omega (arith, slice_get_within [] i e at))
+classed_at (x ∷ xs) zero e at h = subst (λ (w : Item). T (of_a_class w)) (get_or_from_slice_get (x ∷ xs) zero e e at) (apart _ _ h).0
 classed_at (x ∷ xs) (suc i) e at h = classed_at xs i e at (apart _ _ h).1

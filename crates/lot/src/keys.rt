@@ -1,7 +1,5 @@
 // The key under which a lot keeps an item.
-ghost use Rattle.std.specs.Ordering.{nat_cmp};
-ghost use Rattle.std.specs.Cmp.{nat_cmp_total};
-ghost use Rattle.table.proofs.Orders.{order, exact_unsigned};
+ghost use Rattle.table.proofs.Orders.{exact_unsigned};
 
 use crate::Item;
 use table::Entry;
@@ -11,9 +9,7 @@ impl Entry for Item {
 
     ghost key = { λ e. e.number };
 
-    ghost compare = { nat_cmp };
-
-    ghost total = { order nat_cmp_total exact_unsigned };
+    ghost exact = { exact_unsigned };
 
     fn key(&self) -> u32 {
         self.number

@@ -12,7 +12,7 @@ use Rattle.requirement.specs.declared.requirements.Requirement.{Requirement}
 use Rattle.judging.specs.declared.answers.Judgement.{Judgement}
 use Rattle.judging.proofs.Order.{judged_holds}
 use Rattle.table.specs.Tables.{standing, capacity}
-use Rattle.table.proofs.Standing.{nth_at}
+use Rattle.std.proofs.lemmas.Option.{slice_get_within}
 use Rattle.lot.specs.Notes.{Note, Judgeable, stored, item_of, passing}
 use Rattle.lot.specs.Risks.{SumsHold}
 use Rattle.lot.specs.Rows.{row_of}
@@ -104,7 +104,7 @@ module _ (f : ItemFields) (k : Answers) (rules : Rules k) where
         let answer = answer_kept (Ok j) done in
         let none = no_refusal Judged by_book j answer in
         let stands = done.change in
-        let are = noted_items (requirement_for sheet f) j (book places calls) (items l) (items l') stands.place (its_value Judged by_book j answer) keeps.items_are stands.within stands.items_are l'.ordered.1 in
+        let are = noted_items (requirement_for sheet f) j (book places calls) (items l) (items l') stands.place (its_value Judged by_book j answer) keeps.items_are stands.within stands.items_are l'.table.ordered.1 in
         subst (λ (o : Option Refusal). Keeps l' places (note_if o (requirement_for sheet f) f k rules (book places calls))) (sym none)
         (record { items_are = are; room_is = done.same_room ∙ keeps.room_is })
 
@@ -137,7 +137,7 @@ module _ (l : Lot) (n : ℤ) (l' : Lot) (places : ℕ) (calls : List Call) (keep
       let ns = book places calls in
       let at = sym (ap (λ xs. slice_get xs out.place) keeps.items_are) ∙ out.stood in
       let are : items l' ≡ map stored (struck (nat_abs n) ns) =
-      out.items_are ∙ ap (λ xs. remove xs out.place) keeps.items_are ∙ struck_at ns out.place e at (subst Rising keeps.items_are l.ordered.1) ∙ ap (λ m. map stored (struck m ns)) out.number_is in
+      out.items_are ∙ ap (λ xs. remove xs out.place) keeps.items_are ∙ struck_at ns out.place e at (subst Rising keeps.items_are l.table.ordered.1) ∙ ap (λ m. map stored (struck m ns)) out.number_is in
       subst (λ (o : Option Refusal). Keeps l' places (strike_if o (nat_abs n) ns)) (sym none) (record { items_are = are; room_is = done.same_room ∙ keeps.room_is })
 
 pub struck_carries : (l : Lot) (n : ℤ) (r : Result (Unit {0}) Fault) (l' : Lot) → Struck l n r l' → StrikesOn l n r l'
@@ -146,7 +146,7 @@ struck_carries l n r l' done places calls keeps =
 
 -- showing and telling a row change nothing
 nth_stored : (ns : List Note) (place : ℕ) (e : Item) → slice_get (map stored ns) place ≡ Some e → option_map stored (slice_get ns place) ≡ Some e
-nth_stored [] place e at = let here = nth_at [] place e at in absurd (omega (arith, here.0))
+nth_stored [] place e at = absurd (omega (arith, slice_get_within [] place e at))
 nth_stored (n ∷ ns) zero e at = at
 nth_stored (n ∷ ns) (suc place) e at = nth_stored ns place e at
 

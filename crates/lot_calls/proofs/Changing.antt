@@ -27,7 +27,7 @@ abbrev its_number : Item → ℕ
 its_number e = e.number
 
 -- where there is room, the table grants the place
-module _ (t t' : Table Item) (e : Item) (free : room_refusal (map its_number (standing t)) (capacity t) (pos e.number) ≡ None) where
+module _ {entry ord eq partial : _} (t t' : Table Item ℕ entry ord eq partial) (e : Item) (free : room_refusal (map its_number (standing t)) (capacity t) (pos e.number) ≡ None) where
   abbrev stood : Bool
   stood = stands (map its_number (standing t)) e.number
 

@@ -1,6 +1,6 @@
 -- What each way out of striking and entering leaves.
 use Rattle.std.proofs.Common.{◌≡◌, Bool, true, leb, List, ℤ, nat_abs, None, Ok, Err, Option, Result, sym, refl, ap, ◌∙◌, subst}
-use Rattle.std.proofs.lemmas.List.{get_or_default}
+use Rattle.std.proofs.lemmas.Option.{slice_get_within, get_or_from_slice_get}
 use Rattle.std.proofs.lemmas.Bool.{le-leb, and_from}
 use Rattle.faults.specs.Faults.{direct, check, first_of, AnswersBy}
 use Rattle.faults.specs.declared.Fault.{Fault}
@@ -11,7 +11,7 @@ use Rattle.knowledge.specs.Knowledge.{Answers}
 use Rattle.requirement.specs.declared.requirements.Requirement.{Requirement}
 use Rattle.judging.specs.declared.answers.Judgement.{Judgement}
 use Rattle.table.specs.Places.{Stands}
-use Rattle.table.proofs.Standing.{nth_at, stands_at}
+use Rattle.table.proofs.Standing.{stands_at}
 use Rattle.lot.specs.Notes.{item_of}
 use Rattle.lot.specs.Rows.{of_a_class}
 use Rattle.lot.specs.Book.{stands, in_range, strike_refusal, number_refusal, fields_refusal, room_refusal, judged_refusal, requirement_for}
@@ -47,9 +47,8 @@ module _ (l : Lot) (n : ℤ) where
 
     pub one_out : (e : Item) → TakenOut l (nat_abs n) e l' → Struck l n (Ok tt) l'
     one_out e out =
-        let at = nth_at (items l) out.place e out.stood in
-        let has = stands_at (λ (e : Item). e.number) (nat_abs n) (items l) out.place at.0
-        (λ d. ap (λ (x : Item). x.number) (get_or_default (items l) out.place d e at.0 ∙ at.1) ∙ out.number_is) in
+        let has = stands_at (λ (e : Item). e.number) (nat_abs n) (items l) out.place (slice_get_within (items l) out.place e out.stood)
+        (λ d. ap (λ (x : Item). x.number) (get_or_from_slice_get (items l) out.place e d out.stood) ∙ out.number_is) in
         record {
           answer = in_turn (Ok tt)
               (passes_first Nothing (number_refusal n) (check stood NoItem None) (Ok tt) (no_refusal Nothing (number_refusal n) tt number)

@@ -1,9 +1,8 @@
 // A lot, with what every one keeps.
 ghost use Rattle.std.specs.Prelude.{◌≡◌, ◌≤◌};
-ghost use Rattle.table.specs.Tables.{standing, capacity, Ordered};
+ghost use Rattle.table.specs.Tables.{standing, capacity};
 ghost use Rattle.lot.specs.Rows.{Classed};
 ghost use Rattle.lot_calls.specs.Sizes.{rows_of};
-ghost use Rattle.std.specs.Ordering.{nat_cmp};
 
 use crate::rows::Rows;
 use lot::Item;
@@ -16,7 +15,6 @@ mod methods;
 pub struct Lot<'a> {
     table: Table<'a, Item>,
     rows: Rows,
-    ghost ordered: { Ordered (λ e. e.number) nat_cmp table },
     ghost few: { capacity table ≤ 10000 },
     // every item is of a class that has a row
     ghost classed: { Classed (standing table) },

@@ -15,7 +15,7 @@ use Rattle.table.specs.Changes.{Allowed, Insertion}
 use Rattle.sheet.specs.Sheets.{lookup, refusal_of, Added}
 use Rattle.sheet.proofs.Lookups.{lookup_picks, stands_some, absent_none}
 
-module _ (t t' : Table Requirement) (q : Requirement) (keeps : capacity t' ≡ capacity t) where
+module _ {entry ord eq partial : _} (t t' : Table Requirement (ℕ × ℕ) entry ord eq partial) (q : Requirement) (keeps : capacity t' ≡ capacity t) where
   abbrev found : Option Requirement
   found = lookup (standing t) q.class q.characteristic
 

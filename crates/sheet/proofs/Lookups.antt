@@ -8,7 +8,6 @@ use Rattle.requirement.specs.declared.requirements.Requirement.{Requirement}
 use Rattle.table.specs.Changes.{Picked}
 use Rattle.table.specs.Keys.{Ascending}
 use Rattle.table.specs.Places.{Stands}
-use Rattle.table.proofs.Orders.{order, exact_unsigned, exact_pairs}
 use Rattle.table.proofs.Standing.{one_place}
 use Rattle.sheet.specs.Sheets.{lookup}
 use Rattle.std.specs.Ordering.{nat_cmp, ordering_then}
@@ -62,7 +61,7 @@ module _ (qs : List Requirement) (ascending : Ascending key_of (λ x y. ordering
       let i = hx.0 in
       let j = hy.0 in
       let keys = ap key_of (hx.2 x) ∙ e ∙ sym (ap key_of (hy.2 x)) in
-      let place = one_place key_of (order (then_total (on_total (λ p. p.0) nat_cmp_total) (on_total (λ p. p.1) nat_cmp_total)) (exact_pairs exact_unsigned exact_unsigned)) qs ascending i j x hx.1 hy.1 keys in
+      let place = one_place key_of (then_total (on_total (λ p. p.0) nat_cmp_total) (on_total (λ p. p.1) nat_cmp_total)) qs ascending i j x hx.1 hy.1 keys in
       sym (hx.2 x) ∙ ap (λ n. get_or qs n x) place ∙ hy.2 x
 
   -- so what is picked is what is looked up

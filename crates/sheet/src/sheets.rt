@@ -1,16 +1,64 @@
-// A sheet, with what every one keeps.
-ghost use Rattle.table.specs.Tables.{Ordered};
-ghost use Rattle.requirement.specs.Keys.{key_of};
-ghost use Rattle.std.specs.Ordering.{nat_cmp, ordering_then};
+// A sheet: making it, adding to it and finding in it.
+ghost use Rattle.std.specs.Prelude.{◌≡◌, [], length};
+ghost use Rattle.table.specs.Tables.{standing, capacity};
+ghost use Rattle.sheet.specs.Lists.{places_of};
+ghost use Rattle.sheet.specs.Sheets.{refusal_of, Added, lookup};
 
+use crate::usable_places;
+use faults::{Fault, Refusal};
 use requirement::Requirement;
-use table::Table;
-
-mod methods;
+use table::{Refused, Table};
 
 // Requirements in the order of class and characteristic, no two with both the same.
 #[derive(Drop)]
 pub struct Sheet<'a> {
     table: Table<'a, Requirement>,
-    ghost ordered: { Ordered key_of (λ x y. ordering_then (nat_cmp x.0 y.0) (nat_cmp x.1 y.1)) table },
+}
+
+// The sheet's refusal for the table's.
+fn refusal_of(refused: Refused) -> Refusal
+    ensures { result ≡ refusal_of refused }
+{
+    match refused {
+        Refused::Present => Refusal::DuplicateRequirement,
+        Refused::Full => Refusal::SheetFull,
+    }
+}
+
+impl<'a> Sheet<'a> {
+    // An empty sheet over the list; one that the check refuses has no place.
+    pub fn new(places: &'a mut [Requirement]) -> Self
+        ensures list { result.table.places.now ≡ places.old }
+        ensures same { result.table.places.ghost_name ≡ places.entry.ghost_name }
+        ensures empty { (standing result.table ≡ []) × (capacity result.table ≡ places_of (length places.old)) }
+    {
+        let limit = usable_places(places.len());
+        let table = Table::new(places, limit);
+        Sheet { table }
+    }
+
+    // Puts a requirement in the sheet.
+    pub fn add(&mut self, requirement: Requirement) -> Result<(), Fault>
+        ensures same { self.new.table.places.ghost_name ≡ self.old.table.places.ghost_name }
+        ensures outcome { Added self.old.table requirement result self.new.table }
+    {
+        match self.table.insert(requirement) {
+            Ok(_) => Ok(()),
+            Err(refused) => Err(Fault::direct(refusal_of(refused))),
+        }
+    }
+
+    // The requirement of a class and a characteristic, if the sheet has one.
+    pub fn find(&self, class: u8, characteristic: u8) -> Option<Requirement>
+        ensures { result ≡ lookup (standing self.now.table) class characteristic }
+    {
+        self.table.lookup((class, characteristic))
+    }
+
+    // How many requirements stand.
+    pub fn len(&self) -> usize
+        ensures { result ≡ length (standing self.now.table) }
+    {
+        self.table.len()
+    }
 }

@@ -1,8 +1,5 @@
 pub mod Orders
 pub mod Ascents
-mod Bisection
-mod Shifts
+mod Finding
 mod Edits
 pub mod Standing
-pub mod Contents
-mod Fronts

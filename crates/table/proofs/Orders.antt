@@ -1,15 +1,8 @@
--- Total orders of keys, for the law that an entry shows: numbers, signed numbers, pairs and triples.
+-- Only a key itself compares as equal, for the law that an entry shows: numbers, signed numbers, pairs and triples.
 use Rattle.std.proofs.Common.{◌≡◌, ◌<◌, ◌<ℤ◌, Ordering, Less, Equal, Greater, sym, refl, ap, subst, true≢false}
-use Rattle.std.specs.Cmp.{IsTotalOrder, ranks, int_ranks}
+use Rattle.std.specs.Cmp.{ranks, int_ranks}
 use Rattle.std.specs.Ordering.{MatchOrdering, is_eq, ordering_then, nat_cmp, int_cmp}
-use Rattle.table.specs.Keys.{Order}
-
--- only a key itself is equal to it
-abbrev pub Exact : {K : Type 0} → (K → K → Ordering) → Type 0
-Exact {K} R = (a b : K) → R a b ≡ Equal → a ≡ b
-
-pub order : {K : Type 0} {R : K → K → Ordering} → IsTotalOrder R → Exact R → Order (λ a b o. o ≡ R a b) R
-order t exact = record { says = λ a b o e. e; flip = t.antisymm; trans = t.trans; exact = exact }
+use Rattle.table.specs.Keys.{Exact}
 
 pub exact_unsigned : Exact nat_cmp
 exact_unsigned a b e = subst (λ (k : Ordering). MatchOrdering k (a < b) (a ≡ b) (b < a)) e (ranks a b)

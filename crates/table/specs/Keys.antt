@@ -1,26 +1,22 @@
 -- Keys in order.
-use Rattle.std.specs.Prelude.{◌≡◌, T, Bool, true, ◌&&◌, List, [], ◌∷◌, map}
-use Rattle.std.specs.declared.cmp.Ordering.TheVariants.{Less, Equal}
+use Rattle.std.specs.Prelude.{◌≡◌, ℕ, ◌≤◌, min, List, length, map, take}
+use Rattle.std.specs.Coded.{×_prop, le_prop}
+use Rattle.std.specs.declared.cmp.Ordering.TheVariants.{Equal}
 use Rattle.std.specs.declared.cmp.Ordering.{Ordering}
-use Rattle.std.specs.Ordering.{ordering_reverse, is_lt}
-use Rattle.std.specs.List.{list_all}
+use Rattle.std.specs.List.Sorted.{IsStrictlySortedBy, IsStrictlySortedBy-prop}
 
--- a total order of keys: `answers` holds of two keys and each answer that comparing them may give
-pub record Order {K : Type 0} (answers : K → K → Ordering → Type 0) (compare : K → K → Ordering) : Type 0 where
-  -- there is one answer
-  pub says : (a b : K) (o : Ordering) → answers a b o → o ≡ compare a b
-  -- the other way round it is the opposite
-  pub flip : (a b : K) → compare a b ≡ ordering_reverse (compare b a)
-  -- less is passed on
-  pub trans : (a b c : K) → compare a b ≡ Less → compare b c ≡ Less → compare a c ≡ Less
-  -- only a key itself compares as equal
-  pub exact : (a b : K) → compare a b ≡ Equal → a ≡ b
-
--- whether each key is less than all later ones
-abbrev pub is_strictly_sorted_by : {K : Type 0} → (K → K → Ordering) → List K → Bool
-is_strictly_sorted_by compare [] = true
-is_strictly_sorted_by compare (k ∷ ks) = list_all (λ y. is_lt (compare k y)) ks && is_strictly_sorted_by compare ks
+-- only a key itself compares as equal
+abbrev pub Exact : {K : Type 0} → (K → K → Ordering) → Type 0
+Exact {K} compare = (a b : K) → compare a b ≡ Equal → a ≡ b
 
 -- strictly ascending: the key of each entry is less than the key of every later one
 abbrev pub Ascending : {E K : Type 0} → (E → K) → (K → K → Ordering) → List E → Type 0
-Ascending key compare xs = T (is_strictly_sorted_by compare (map key xs))
+Ascending key compare xs = IsStrictlySortedBy compare (map key xs)
+
+-- a list in order, of which the first `count` entries stand: no more than may, and their keys strictly ascend
+abbrev pub Ordered : {E K : Type 0} → (E → K) → (K → K → Ordering) → ℕ → ℕ → List E → Type 0
+Ordered key compare limit count places = (length (take count places) ≤ min limit (length places)) × Ascending key compare (take count places)
+
+-- a list is in order in one way only, as a field of a table must be
+pub Ordered-prop : {E K : Type 0} (key : E → K) (compare : K → K → Ordering) (limit count : ℕ) (places : List E) → IsProp (Ordered key compare limit count places)
+Ordered-prop key compare limit count places = ×_prop le_prop (IsStrictlySortedBy-prop compare (map key (take count places)))

@@ -4,12 +4,11 @@ use Rattle.std.specs.declared.cmp.Ordering.TheVariants.{Less}
 use Rattle.std.specs.declared.cmp.Ordering.{Ordering}
 use Rattle.std.specs.List.{HoldsAt, ContainsAt as Has}
 use Rattle.std.specs.List.Sorted.{IsPartitionPoint}
-use Rattle.table.specs.Keys.{Ascending}
 
--- what a search for the key k answers: the place that holds it, or the place where it belongs among keys in order, with lesser keys before and greater ones from there on
+-- what a search for the key k answers: the place that holds it, or the place where it belongs, with lesser keys before and greater ones from there on
 abbrev pub Found : {E K : Type 0} → (E → K) → (K → K → Ordering) → List E → K → Result ℕ ℕ → Type 0
 Found key compare xs k (Ok i) = (i < length xs) × HoldsAt (λ e. key e ≡ k) xs i
-Found key compare xs k (Err i) = (i ≤ length xs) × (Ascending key compare xs → IsPartitionPoint (λ e. compare (key e) k ≡ Less) (λ e. compare k (key e) ≡ Less) xs i)
+Found key compare xs k (Err i) = (i ≤ length xs) × IsPartitionPoint (λ e. compare (key e) k ≡ Less) (λ e. compare k (key e) ≡ Less) xs i
 
 -- a key stands among entries: one of them has it
 abbrev pub Stands : {E K : Type 0} → (E → K) → List E → K → Type 0

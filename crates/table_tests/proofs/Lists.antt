@@ -9,7 +9,7 @@ use Rattle.table.specs.Changes.{Allowed, Insertion}
 use Rattle.table.specs.Tables.{standing, beyond, capacity}
 use Rattle.table_tests.specs.Entered.{Entered}
 
-module _ {E K : Type 0} (key : E → K) (e : E) (t t' : Table E) (xs ys : List E) (before : t.places.now ≡ xs) (after : ys ≡ t'.places.now) (empty : standing t ≡ []) (room : capacity t ≡ min (length xs) (length xs)) where
+module _ {E K : Type 0} {entry ord eq partial : _} (key : E → K) (e : E) (t t' : Table E K entry ord eq partial) (xs ys : List E) (before : t.places.now ≡ xs) (after : ys ≡ t'.places.now) (empty : standing t ≡ []) (room : capacity t ≡ min (length xs) (length xs)) where
   untouched : beyond t ≡ xs
   untouched = ap (λ zs. zs ++ beyond t) (sym empty) ∙ take-append-drop t.count t.places.now ∙ before
 

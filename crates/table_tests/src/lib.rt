@@ -1,10 +1,8 @@
 // The table at three kinds of entry, each with a key of another make.
 #![tactic(auto)]
 
-ghost use Rattle.std.specs.Cmp.{int_cmp_total, nat_cmp_total, then_total, on_total};
 ghost use Rattle.table_tests.specs.Entered.{Entered};
-ghost use Rattle.std.specs.Ordering.{int_cmp, nat_cmp, ordering_then};
-ghost use Rattle.table.proofs.Orders.{order, exact_unsigned, exact_pairs, exact_signed, exact_triples};
+ghost use Rattle.table.proofs.Orders.{exact_unsigned, exact_pairs, exact_signed, exact_triples};
 
 use table::{Entry, Refused, Table};
 
@@ -22,9 +20,7 @@ impl Entry for Reading {
 
     ghost key = { λ e. e.number };
 
-    ghost compare = { nat_cmp };
-
-    ghost total = { order nat_cmp_total exact_unsigned };
+    ghost exact = { exact_unsigned };
 
     fn key(&self) -> u32 {
         self.number
@@ -44,9 +40,7 @@ impl Entry for Limit {
 
     ghost key = { λ e. (e.class, e.characteristic) };
 
-    ghost compare = { (λ x y. ordering_then (nat_cmp x.0 y.0) (nat_cmp x.1 y.1)) };
-
-    ghost total = { order (then_total (on_total (λ p. p.0) nat_cmp_total) (on_total (λ p. p.1) nat_cmp_total)) (exact_pairs exact_unsigned exact_unsigned) };
+    ghost exact = { exact_pairs exact_unsigned exact_unsigned };
 
     fn key(&self) -> (u8, u8) {
         (self.class, self.characteristic)
@@ -66,9 +60,7 @@ impl Entry for Mark {
 
     ghost key = { λ e. (e.road, e.position, e.number) };
 
-    ghost compare = { λ x y. ordering_then (ordering_then (nat_cmp x.0 y.0) (int_cmp x.1 y.1)) (nat_cmp x.2 y.2) };
-
-    ghost total = { order (then_total (then_total (on_total (λ p. p.0) nat_cmp_total) (on_total (λ p. p.1) int_cmp_total)) (on_total (λ p. p.2) nat_cmp_total)) (exact_triples exact_unsigned exact_signed exact_unsigned) };
+    ghost exact = { exact_triples exact_unsigned exact_signed exact_unsigned };
 
     fn key(&self) -> (u16, i32, u8) {
         (self.road, self.position, self.number)
@@ -90,61 +82,41 @@ mod tests {
     use std::fmt::Debug;
     use std::process::Abort;
 
-    // A call on a table, with the answer that is due.
-    #[derive(Clone, Copy)]
-    enum Step<E> {
-        Insert(E, Result<usize, Refused>),
-        Remove(E, Option<E>),
-        Find(E, Result<usize, usize>),
-        At(usize, Option<E>),
-    }
-
-    fn play<E: Entry + PartialEq + Debug>(
+    // Fills a table of three places, with refusals: the keys of a, b, c and d ascend.
+    fn fill<E: Entry + PartialEq + Debug>(
         rt: &impl Abort,
         table: &mut Table<E>,
-        steps: &[Step<E>],
+        [a, b, c, d]: [E; 4],
     ) {
-        for step in steps {
-            match *step {
-                Step::Insert(entry, due) => assert_eq!(rt; table.insert(entry), due),
-                Step::Remove(entry, due) => assert_eq!(rt; table.remove(entry.key()), due),
-                Step::Find(entry, due) => assert_eq!(rt; table.find(entry.key()), due),
-                Step::At(place, due) => assert_eq!(rt; table.at(place), due),
-            }
-        }
-    }
-
-    // Fills a table of three places, with refusals: the keys of a, b, c and d ascend.
-    fn fill<E: Copy>(a: E, b: E, c: E, d: E) -> [Step<E>; 10] {
-        [
-            Step::Insert(b, Ok(0)),
-            Step::Insert(d, Ok(1)),
-            Step::Insert(b, Err(Refused::Present)),
-            Step::Insert(a, Ok(0)),
-            Step::Insert(c, Err(Refused::Full)),
-            Step::Insert(d, Err(Refused::Present)),
-            Step::At(1, Some(b)),
-            Step::At(3, None),
-            Step::Find(d, Ok(2)),
-            Step::Find(c, Err(2)),
-        ]
+        assert_eq!(rt; table.insert(b), Ok(0));
+        assert_eq!(rt; table.insert(d), Ok(1));
+        assert_eq!(rt; table.insert(b), Err(Refused::Present));
+        assert_eq!(rt; table.insert(a), Ok(0));
+        assert_eq!(rt; table.insert(c), Err(Refused::Full));
+        assert_eq!(rt; table.insert(d), Err(Refused::Present));
+        assert_eq!(rt; table.at(1), Some(b));
+        assert_eq!(rt; table.at(3), None);
+        assert_eq!(rt; table.find(d.key()), Ok(2));
+        assert_eq!(rt; table.find(c.key()), Err(2));
     }
 
     // Empties the filled table and fills it anew.
-    fn refill<E: Copy>(a: E, b: E, c: E, d: E) -> [Step<E>; 11] {
-        [
-            Step::Remove(c, None),
-            Step::Remove(b, Some(b)),
-            Step::At(1, Some(d)),
-            Step::Remove(a, Some(a)),
-            Step::Remove(d, Some(d)),
-            Step::At(0, None),
-            Step::Insert(d, Ok(0)),
-            Step::Insert(c, Ok(0)),
-            Step::Insert(a, Ok(0)),
-            Step::Insert(b, Err(Refused::Full)),
-            Step::At(1, Some(c)),
-        ]
+    fn refill<E: Entry + PartialEq + Debug>(
+        rt: &impl Abort,
+        table: &mut Table<E>,
+        [a, b, c, d]: [E; 4],
+    ) {
+        assert_eq!(rt; table.remove(c.key()), None);
+        assert_eq!(rt; table.remove(b.key()), Some(b));
+        assert_eq!(rt; table.at(1), Some(d));
+        assert_eq!(rt; table.remove(a.key()), Some(a));
+        assert_eq!(rt; table.remove(d.key()), Some(d));
+        assert_eq!(rt; table.at(0), None);
+        assert_eq!(rt; table.insert(d), Ok(0));
+        assert_eq!(rt; table.insert(c), Ok(0));
+        assert_eq!(rt; table.insert(a), Ok(0));
+        assert_eq!(rt; table.insert(b), Err(Refused::Full));
+        assert_eq!(rt; table.at(1), Some(c));
     }
 
     fn reading(number: u32) -> Reading {
@@ -171,48 +143,27 @@ mod tests {
     fn under_numbers(rt: HostRuntime) {
         let mut places = [reading(0); 3];
         let mut table = Table::new(&mut places, 3);
-        play(
-            &rt,
-            &mut table,
-            &fill(reading(2), reading(3), reading(5), reading(900)),
-        );
-        play(
-            &rt,
-            &mut table,
-            &refill(reading(2), reading(3), reading(5), reading(900)),
-        );
+        let entries = [reading(2), reading(3), reading(5), reading(900)];
+        fill(&rt, &mut table, entries);
+        refill(&rt, &mut table, entries);
     }
 
     #[test]
     fn under_pairs(rt: HostRuntime) {
         let mut places = [limit(9, 9); 3];
         let mut table = Table::new(&mut places, 3);
-        play(
-            &rt,
-            &mut table,
-            &fill(limit(1, 20), limit(2, 1), limit(2, 3), limit(3, 2)),
-        );
-        play(
-            &rt,
-            &mut table,
-            &refill(limit(1, 20), limit(2, 1), limit(2, 3), limit(3, 2)),
-        );
+        let entries = [limit(1, 20), limit(2, 1), limit(2, 3), limit(3, 2)];
+        fill(&rt, &mut table, entries);
+        refill(&rt, &mut table, entries);
     }
 
     #[test]
     fn under_triples(rt: HostRuntime) {
         let mut places = [mark(0, 0); 3];
         let mut table = Table::new(&mut places, 3);
-        play(
-            &rt,
-            &mut table,
-            &fill(mark(-5, 9), mark(-4, 1), mark(0, 0), mark(0, 1)),
-        );
-        play(
-            &rt,
-            &mut table,
-            &refill(mark(-5, 9), mark(-4, 1), mark(0, 0), mark(0, 1)),
-        );
+        let entries = [mark(-5, 9), mark(-4, 1), mark(0, 0), mark(0, 1)];
+        fill(&rt, &mut table, entries);
+        refill(&rt, &mut table, entries);
     }
 
     // What the caller's list holds once the table is gone: the standing entries, then what was removed.

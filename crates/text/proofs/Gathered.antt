@@ -35,7 +35,7 @@ spelled_push (g ∷ fs) f = ap (λ cs. spelling g ++ cs) (commas fs f) ∙ sym (
 
 -- what ends a record after its last field
 ended_row : (e : Ending) (sr after tail bs : List ℕ) → (e ≡ Line) ⊎ (e ≡ Text) → Ended e after tail → bs ≡ sr ++ tail → (bs ≡ sr ++ CR ∷ LF ∷ after) ⊎ ((bs ≡ sr) × (after ≡ []))
-ended_row Comma sr after tail bs which h is = absurd (⊎_elim (λ e. let z : ◌≡◌ {A = ℕ} 0 1 = cc in omega arith) (λ e. let z : ◌≡◌ {A = ℕ} 0 1 = cc in omega arith) which)
+ended_row Comma sr after tail bs which h is = ⊎_elim (λ e. absurd cc) (λ e. absurd cc) which
 ended_row Line sr after tail bs which h is = inl (is ∙ ap (λ t. sr ++ t) h)
 ended_row Text sr after tail bs which h is = inr (is ∙ ap (λ t. sr ++ t) h.0 ∙ append-nil sr, h.1)
 

@@ -74,7 +74,7 @@ one_reading bs (r ∷ rs) (s ∷ ss) h k =
     let rest = one_reading y.0 rs ss (subst (IsText rs) same.1 x.2) y.2 in
     (λ i. same.0 i ∷ rest i)
 
-pub first_record : (fs : List Form) (after bs : List ℕ) → Begins fs after bs → First fs after bs
+first_record : (fs : List Form) (after bs : List ℕ) → Begins fs after bs → First fs after bs
 first_record fs after bs h =
     record { begins = h; reads_on = λ rs k. begins_text fs rs after bs h k; only = only; alone = one_reading bs; unbroken = λ e k x. unbroken fs after bs e k h x }
   where
@@ -85,7 +85,7 @@ first_record fs after bs h =
         let same = begins_once r fs x.0 after bs x.1 h in
         (rs, ap (λ s. s ∷ rs) same.0, subst (IsText rs) same.1 x.2)
 
-pub first_offence : (e : Refusal) (k : ℕ) (bs : List ℕ) → Breaks e k bs → Broken e k bs
+first_offence : (e : Refusal) (k : ℕ) (bs : List ℕ) → Breaks e k bs → Broken e k bs
 first_offence e k bs x = record { breaks = x; only = λ d j y. breaks_once e d k j bs x y; unread = unread }
   where
     unread : (rs : List (List Form)) → IsText rs bs → ⊥
@@ -93,7 +93,7 @@ first_offence e k bs x = record { breaks = x; only = λ d j y. breaks_once e d k
     unread (r ∷ rs) h = let y = text_begins r rs bs h in unbroken r y.0 bs e k y.1 x
 
 -- a record takes a byte at least
-pub shorter_after : (fs : List Form) (after bs : List ℕ) → Begins fs after bs → length after < length bs
+shorter_after : (fs : List Form) (after bs : List ℕ) → Begins fs after bs → length after < length bs
 shorter_after fs after bs h =
     ⊎_elim (λ e. omega (arith, simp length-append at (ap length e))) (λ p. omega (arith, ap length p.1, h.some)) h.spelt
 

@@ -5,7 +5,7 @@ use Rattle.faults.specs.declared.Refusal.{Refusal}
 use Rattle.text.specs.Grammar.{COMMA, CR, LF, Form, IsField, spelling, IsRecord, spelled_record}
 use Rattle.text.specs.Offences.{Follows, the_end, a_comma, a_line_end, Offence, unclosed, run_on, stray, Stray, quote, lf, cr}
 use Rattle.text.specs.Records.{Begins, Breaks}
-use Rattle.text.proofs.Unique.{head_is, tail_is, no_cons, field_once, field_stands, offence_once}
+use Rattle.text.proofs.Unique.{tail_is, field_once, field_stands, offence_once}
 
 -- a field after its comma, and before it
 abbrev pub after_comma : Form → List ℕ
@@ -20,8 +20,8 @@ data Ends : List ℕ → Type 0 where
   at_line : {bs : List ℕ} → Ends (CR ∷ LF ∷ bs)
 
 no_comma : {t bs : List ℕ} → Ends t → t ≡ COMMA ∷ bs → ⊥
-no_comma at_end e = no_cons e
-no_comma at_line e = let h = head_is e in omega arith
+no_comma at_end e = cc
+no_comma at_line e = grind arith
 
 -- what comes after a field of a record may follow it
 follows_in : (fs : List Form) (t : List ℕ) → Ends t → Follows (flat_map after_comma fs ++ t)
@@ -42,7 +42,7 @@ more_once (f ∷ fs) [] t u a b m n e = absurd (no_comma n (sym e))
 more_once (f ∷ fs) (g ∷ gs) t u a b m n e =
     let first = one_field f g fs gs t u a.0 b.0 m n (tail_is e) in
     let rest = more_once fs gs t u a.1 b.1 m n first.1 in
-    ((λ i. first.0 i ∷ rest.0 i), rest.1)
+    (cc, rest.1)
 
 row_once : (fs gs : List Form) (t u : List ℕ) → IsRecord fs → IsRecord gs → Ends t → Ends u → spelled_record fs ++ t ≡ spelled_record gs ++ u → (fs ≡ gs) × (t ≡ u)
 row_once [] gs t u a b m n e = absurd (omega (arith, a.0))
@@ -50,7 +50,7 @@ row_once (f ∷ fs) [] t u a b m n e = absurd (omega (arith, b.0))
 row_once (f ∷ fs) (g ∷ gs) t u a b m n e =
     let first = one_field f g fs gs t u a.1.0 b.1.0 m n e in
     let rest = more_once fs gs t u a.1.1 b.1.1 m n first.1 in
-    ((λ i. first.0 i ∷ rest.0 i), rest.1)
+    (cc, rest.1)
 
 -- the end of a record, with what comes after it
 record Tail (fs : List Form) (after bs : List ℕ) : Type 0 where
@@ -67,8 +67,8 @@ tail_of fs after bs h =
 same_next : (t u after beyond : List ℕ) → t ≡ u → (t ≡ CR ∷ LF ∷ after) ⊎ ((t ≡ []) × (after ≡ [])) → (u ≡ CR ∷ LF ∷ beyond) ⊎ ((u ≡ []) × (beyond ≡ [])) → after ≡ beyond
 same_next t u after beyond e p q =
     ⊎_elim
-    (λ a. ⊎_elim (λ b. tail_is (tail_is (sym a ∙ e ∙ b))) (λ b. absurd (no_cons (sym b.0 ∙ sym e ∙ a))) q)
-    (λ a. ⊎_elim (λ b. absurd (no_cons (sym a.0 ∙ e ∙ b))) (λ b. a.1 ∙ sym b.1) q) p
+    (λ a. ⊎_elim (λ b. cc) (λ b. absurd cc) q)
+    (λ a. ⊎_elim (λ b. absurd cc) (λ b. cc) q) p
 
 pub begins_once : (fs gs : List Form) (after beyond bs : List ℕ) → Begins fs after bs → Begins gs beyond bs → (fs ≡ gs) × (after ≡ beyond)
 begins_once fs gs after beyond bs h k =
@@ -78,7 +78,7 @@ begins_once fs gs after beyond bs h k =
     (same.0, same_next x.tail y.tail after beyond same.1 x.next y.next)
 
 -- fields that stand before an offence, each with its comma
-pub flat_lead : (f : Form) (fs : List Form) (w : List ℕ) → flat_map before_comma (f ∷ fs) ++ w ≡ spelling f ++ COMMA ∷ (flat_map before_comma fs ++ w)
+flat_lead : (f : Form) (fs : List Form) (w : List ℕ) → flat_map before_comma (f ∷ fs) ++ w ≡ spelling f ++ COMMA ∷ (flat_map before_comma fs ++ w)
 flat_lead f fs w = append_assoc (before_comma f) (flat_map before_comma fs) w ∙ append_assoc (spelling f) (COMMA ∷ []) (flat_map before_comma fs ++ w)
 
 lead_once : (fs gs : List Form) (w v : List ℕ) (e d : Refusal) → AllByRecursion IsField fs → AllByRecursion IsField gs → flat_map before_comma fs ++ w ≡ flat_map before_comma gs ++ v → Offence e w → Offence d v → (e ≡ d) × (length fs ≡ length gs)
@@ -112,15 +112,15 @@ unbroken (f ∷ fs) after bs e k h x =
 
 -- empty text does not offend
 no_offence : (e : Refusal) (w : List ℕ) → w ≡ [] → Offence e w → ⊥
-no_offence e w is (unclosed qs eq i) = no_cons (sym is ∙ eq)
-no_offence e w is (run_on qs after eq i m n) = no_cons (sym is ∙ eq)
+no_offence e w is (unclosed qs eq i) = cc
+no_offence e w is (run_on qs after eq i m n) = cc
 no_offence e w is (stray [] after eq a wrong m) = no_stray wrong (sym eq ∙ is)
   where
     no_stray : {t : List ℕ} → Stray t → t ≡ [] → ⊥
-    no_stray quote e = no_cons (sym e)
-    no_stray lf e = no_cons (sym e)
-    no_stray (cr lone) e = no_cons (sym e)
-no_offence e w is (stray (b ∷ front) after eq a wrong m) = no_cons (sym is ∙ eq)
+    no_stray quote e = cc
+    no_stray lf e = cc
+    no_stray (cr lone) e = cc
+no_offence e w is (stray (b ∷ front) after eq a wrong m) = cc
 
 pub not_empty : (e : Refusal) (k : ℕ) (bs : List ℕ) → Breaks e k bs → bs ≡ [] → ⊥
 not_empty e k bs x is = go x.before (sym x.spelt ∙ is)

@@ -1,41 +1,35 @@
 -- A field at the front of bytes is the only one there, and then nothing offends there.
-use Rattle.std.proofs.Common.{◌≡◌, ℕ, List, [], ◌∷◌, ◌++◌, sym, refl, ap, ◌∙◌, subst, append_assoc, arith}
+use Rattle.std.proofs.Common.{◌≡◌, ℕ, List, [], ◌∷◌, ◌++◌, sym, refl, ◌∙◌, subst, append_assoc, arith}
 use Rattle.std.specs.List.{AllByRecursion}
 use Rattle.faults.specs.declared.Refusal.{Refusal}
 use Rattle.text.specs.Grammar.{DQUOTE, TEXTDATA, Inside, nothing, other, doubled, Form, non_escaped, escaped, IsField, spelling}
 use Rattle.text.specs.Offences.{Follows, the_end, a_comma, a_line_end, Unquoted, Stray, quote, lf, cr, Offence, unclosed, run_on, stray}
 
-pub head_is : {a b : ℕ} {xs ys : List ℕ} → a ∷ xs ≡ b ∷ ys → a ≡ b
-head_is e = cc
-
 pub tail_is : {a b : ℕ} {xs ys : List ℕ} → a ∷ xs ≡ b ∷ ys → xs ≡ ys
 tail_is e = cc
 
-pub no_cons : {b : ℕ} {bs : List ℕ} → [] ≡ b ∷ bs → ⊥
-no_cons e = let z : ◌≡◌ {A = ℕ} 0 1 = cc in omega arith
-
 -- bytes between quotes end at one quote
-pub closes_once : {qs rs : List ℕ} (t u : List ℕ) → Inside qs → Inside rs → Unquoted t → Unquoted u → qs ++ DQUOTE ∷ t ≡ rs ++ DQUOTE ∷ u → (qs ≡ rs) × (t ≡ u)
-closes_once t u nothing nothing m n e = (refl, tail_is e)
-closes_once t u nothing (other k j) m n e = absurd (k (sym (head_is e)))
+closes_once : {qs rs : List ℕ} (t u : List ℕ) → Inside qs → Inside rs → Unquoted t → Unquoted u → qs ++ DQUOTE ∷ t ≡ rs ++ DQUOTE ∷ u → (qs ≡ rs) × (t ≡ u)
+closes_once t u nothing nothing m n e = (refl, cc)
+closes_once t u nothing (other k j) m n e = absurd (k cc)
 closes_once t u nothing (doubled j) m n e = absurd (subst Unquoted (tail_is e) m refl)
-closes_once t u (other k i) nothing m n e = absurd (k (head_is e))
-closes_once t u (other k i) (other l j) m n e = let rest = closes_once t u i j m n (tail_is e) in ((λ x. head_is e x ∷ rest.0 x), rest.1)
-closes_once t u (other k i) (doubled j) m n e = absurd (k (head_is e))
+closes_once t u (other k i) nothing m n e = absurd (k cc)
+closes_once t u (other k i) (other l j) m n e = let rest = closes_once t u i j m n (tail_is e) in (cc, rest.1)
+closes_once t u (other k i) (doubled j) m n e = absurd (k cc)
 closes_once t u (doubled i) nothing m n e = absurd (subst Unquoted (sym (tail_is e)) n refl)
-closes_once t u (doubled i) (other l j) m n e = absurd (l (sym (head_is e)))
-closes_once t u (doubled i) (doubled j) m n e = let rest = closes_once t u i j m n (tail_is (tail_is e)) in (ap (λ cs. DQUOTE ∷ DQUOTE ∷ cs) rest.0, rest.1)
+closes_once t u (doubled i) (other l j) m n e = absurd (l cc)
+closes_once t u (doubled i) (doubled j) m n e = let rest = closes_once t u i j m n (tail_is (tail_is e)) in (cc, rest.1)
 
 -- and so are not all of the text
 never_open : {qs rs : List ℕ} (t : List ℕ) → Inside qs → Inside rs → Unquoted t → qs ≡ rs ++ DQUOTE ∷ t → ⊥
-never_open t nothing nothing n e = no_cons e
-never_open t nothing (other l j) n e = no_cons e
-never_open t nothing (doubled j) n e = no_cons e
-never_open t (other k i) nothing n e = k (head_is e)
+never_open t nothing nothing n e = cc
+never_open t nothing (other l j) n e = cc
+never_open t nothing (doubled j) n e = cc
+never_open t (other k i) nothing n e = k cc
 never_open t (other k i) (other l j) n e = never_open t i j n (tail_is e)
-never_open t (other k i) (doubled j) n e = k (head_is e)
+never_open t (other k i) (doubled j) n e = k cc
 never_open t (doubled i) nothing n e = subst Unquoted (sym (tail_is e)) n refl
-never_open t (doubled i) (other l j) n e = l (sym (head_is e))
+never_open t (doubled i) (other l j) n e = l cc
 never_open t (doubled i) (doubled j) n e = never_open t i j n (tail_is (tail_is e))
 
 -- bs begins with no TEXTDATA
@@ -60,22 +54,22 @@ unquoted_follows a_line_end = λ e. omega arith
 
 -- what strays may not follow a field
 stray_follows : {t u : List ℕ} → Stray t → Follows u → t ≡ u → ⊥
-stray_follows quote the_end e = no_cons (sym e)
-stray_follows quote a_comma e = let h = head_is e in omega arith
-stray_follows quote a_line_end e = let h = head_is e in omega arith
-stray_follows lf the_end e = no_cons (sym e)
-stray_follows lf a_comma e = let h = head_is e in omega arith
-stray_follows lf a_line_end e = let h = head_is e in omega arith
-stray_follows (cr lone) the_end e = no_cons (sym e)
-stray_follows (cr lone) a_comma e = let h = head_is e in omega arith
+stray_follows quote the_end e = cc
+stray_follows quote a_comma e = grind arith
+stray_follows quote a_line_end e = grind arith
+stray_follows lf the_end e = cc
+stray_follows lf a_comma e = grind arith
+stray_follows lf a_line_end e = grind arith
+stray_follows (cr lone) the_end e = cc
+stray_follows (cr lone) a_comma e = grind arith
 stray_follows (cr lone) (a_line_end {bs}) e = lone bs (tail_is e)
 
 -- TEXTDATA reaches up to one place
-pub halts_once : (f g t u : List ℕ) → AllByRecursion TEXTDATA f → AllByRecursion TEXTDATA g → Halts t → Halts u → f ++ t ≡ g ++ u → (f ≡ g) × (t ≡ u)
+halts_once : (f g t u : List ℕ) → AllByRecursion TEXTDATA f → AllByRecursion TEXTDATA g → Halts t → Halts u → f ++ t ≡ g ++ u → (f ≡ g) × (t ≡ u)
 halts_once [] [] t u a b h k e = (refl, e)
 halts_once [] (y ∷ g) t u a b h k e = absurd (subst Halts e h b.0)
 halts_once (x ∷ f) [] t u a b h k e = absurd (subst Halts (sym e) k a.0)
-halts_once (x ∷ f) (y ∷ g) t u a b h k e = let rest = halts_once f g t u a.1 b.1 h k (tail_is e) in ((λ z. head_is e z ∷ rest.0 z), rest.1)
+halts_once (x ∷ f) (y ∷ g) t u a b h k e = let rest = halts_once f g t u a.1 b.1 h k (tail_is e) in (cc, rest.1)
 
 -- a bare field, or nothing, and what may follow begin with no quote
 unquoted_bare : (f t : List ℕ) → AllByRecursion TEXTDATA f → Follows t → Unquoted (f ++ t)
@@ -86,13 +80,13 @@ unquoted_bare (b ∷ f) t a h = a.0.no_quote
 pub field_once : (f g : Form) (t u : List ℕ) → IsField f → IsField g → Follows t → Follows u → spelling f ++ t ≡ spelling g ++ u → (f ≡ g) × (t ≡ u)
 field_once (non_escaped f) (non_escaped g) t u a b h k e =
     let same = halts_once f g t u a b (halts_follows h) (halts_follows k) e in
-    (ap non_escaped same.0, same.1)
+    (cc, same.1)
 field_once (non_escaped f) (escaped g) t u a b h k e = absurd (subst Unquoted e (unquoted_bare f t a h) refl)
 field_once (escaped f) (non_escaped g) t u a b h k e = absurd (subst Unquoted (sym e) (unquoted_bare g u b k) refl)
 field_once (escaped f) (escaped g) t u a b h k e =
     let inner = sym (append_assoc f (DQUOTE ∷ []) t) ∙ tail_is e ∙ append_assoc g (DQUOTE ∷ []) u in
     let same = closes_once t u a b (unquoted_follows h) (unquoted_follows k) inner in
-    (ap escaped same.0, same.1)
+    (cc, same.1)
 
 -- where a field stands, nothing offends
 pub field_stands : (f : Form) (t bs : List ℕ) (e : Refusal) → IsField f → Follows t → bs ≡ spelling f ++ t → Offence e bs → ⊥

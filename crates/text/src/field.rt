@@ -1,5 +1,5 @@
 // A field, as the text has it.
-ghost use Rattle.std.specs.Prelude.{◌≡◌, []};
+ghost use Rattle.std.specs.Prelude.{◌≡◌};
 ghost use Rattle.text.specs.Content.{holds};
 ghost use Rattle.text.specs.Faults.{fault_at};
 ghost use Rattle.text.specs.Fronts.{form};

@@ -1,10 +1,9 @@
 // One field from the front of a text.
-ghost use Rattle.std.specs.Prelude.{◌≡◌, ℕ, ◌≤◌, List, ◌∷◌, length, take, drop, Decides, MatchBool, MatchResult};
+ghost use Rattle.std.specs.Prelude.{◌≡◌, ℕ, ◌≤◌, List, ◌∷◌, length, take, drop, Decides, MatchResult};
 ghost use Rattle.text.specs.Fronts.{form, Ended, Leads};
 ghost use Rattle.text.specs.Grammar.{LF, IsField, spelling};
 ghost use Rattle.text.specs.Machine.{SoFar, Complete};
 ghost use Rattle.text.specs.Offences.{Offence};
-ghost use Rattle.text.specs.declared.machine.State.TheVariants.{Quoted};
 
 use crate::field::Field;
 use crate::machine::{Effect, Ending, State, step};
@@ -30,8 +29,8 @@ fn whole<'a>(bytes: &'a [u8], state: State) -> Field<'a>
     requires { SoFar state bytes.now × Complete state }
     ensures { IsField (form result) × (spelling (form result) ≡ bytes.now) }
 {
-    match (state, bytes) {
-        (State::AfterQuote, [_, inner @ .., _]) => Field::Quoted(inner),
+    match state {
+        State::AfterQuote => Field::Quoted(&bytes[1..bytes.len() - 1]),
         _ => Field::Bare(bytes),
     }
 }
@@ -41,9 +40,10 @@ fn past<'a>(tail: &'a [u8], ending: Ending) -> &'a [u8]
     requires { (after : List ℕ) × Ended ending after tail.now }
     ensures { Ended ending result.now tail.now }
 {
-    match (ending, tail) {
-        (Ending::Comma, [_, after @ ..]) | (Ending::Line, [_, _, after @ ..]) => after,
-        _ => tail,
+    match ending {
+        Ending::Comma => &tail[1..],
+        Ending::Line => &tail[2..],
+        Ending::Text => tail,
     }
 }
 

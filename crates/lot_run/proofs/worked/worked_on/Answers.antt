@@ -12,6 +12,15 @@ returns-in_err-first c =
     let known = c.requires.known in
     absurd (enter_7 sheet required s known c.args.lot.now c.requires.empty c.grade.result (Err c.in_err-first.field-0.0) c.enter.new.self c.grade.ensures c.in_err-first.ensures.run).0
 
+pub returns-in_err-second : goal.returns-in_err-second
+returns-in_err-second c =
+    let sheet = standing c.args.sheet.now.table in
+    let s = c.args.knowledge.now.half_width in
+    let required = c.requires.required in
+    let known = c.requires.known in
+    let one = enter_7 sheet required s known c.args.lot.now c.requires.empty c.grade.result (Ok c.in_ok-first.first) c.enter.new.self c.grade.ensures c.in_ok-first.ensures.run in
+    absurd (enter_8 sheet required s known c.enter.new.self one.1 c.grade-2.result (Err c.in_err-second.field-0.0) c.enter-2.new.self c.grade-2.ensures c.in_err-second.ensures.run).0
+
 pub returns-in_err-strike : goal.returns-in_err-strike
 returns-in_err-strike c =
     let sheet = standing c.args.sheet.now.table in

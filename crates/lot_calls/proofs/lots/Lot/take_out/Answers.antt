@@ -35,7 +35,7 @@ invariant_of-self-2 c =
     let share = c.share_of.result in
     let left = tallied_taken e l.rows.by_class classed (items l) (standing t') taken.0 k share _ (row_of 1 []) c.of.ensures c.share_of.ensures taken.1.0 refl taken.1.1 (tallied_by (items l) l.rows l.tallied) in
     let tallied = rows_by (standing t') c.lower.new.self (subst (NineTallied (standing t')) (sym c.lower.ensures) left) in
-    record { ordered = (s.outcome l.ordered).1; few = omega (arith, s.room, l.few); classed = subst Classed (sym taken.1.1) (classed_removed (items l) taken.0 l.classed); tallied = tallied }
+    record { few = omega (arith, s.room, l.few); classed = subst Classed (sym taken.1.1) (classed_removed (items l) taken.0 l.classed); tallied = tallied }
 
 -- without an item of the number nothing has changed
 pub invariant_of-self : goal.invariant_of-self
@@ -43,4 +43,4 @@ invariant_of-self c =
     let l = c.args.self.now in
     let s = c.in_err-item.ensures in
     let same = s.change in
-    record { ordered = (s.outcome l.ordered).1; few = omega (arith, s.room, l.few); classed = subst Classed (sym (ap standing same)) l.classed; tallied = l.tallied ∙ ap (λ t. rows_of (standing t)) (sym same) }
+    record { few = omega (arith, s.room, l.few); classed = subst Classed (sym (ap standing same)) l.classed; tallied = l.tallied ∙ ap (λ t. rows_of (standing t)) (sym same) }

@@ -6,4 +6,4 @@ pub returns : goal.returns
 returns c =
     let s = c.args.self.now in
     let qs = standing s.table in
-    picked_unique qs s.ordered.1 (c.args.class, c.args.characteristic) c.lookup.result _ (c.lookup.ensures s.ordered) (lookup_picks qs c.args.class c.args.characteristic)
+    picked_unique qs s.table.ordered.1 (c.args.class, c.args.characteristic) c.lookup.result _ c.lookup.ensures (lookup_picks qs c.args.class c.args.characteristic)
