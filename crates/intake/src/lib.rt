@@ -89,6 +89,7 @@ fn enter(number: u32, row: &ItemRow, sheet: &Sheet<'_>, lot: &mut Lot<'_>) -> Re
 }
 
 // Takes in a record: a requirement for the sheet, or an item for the lot.
+// Sheet and lot come as two: the first changes the one alone, and the second reads it while it changes the other.
 pub fn take_in(
     number: u32,
     fields: &[Placed<'_>],
