@@ -61,18 +61,13 @@ fn write_digits(digits: &mut [u8; DIGITS], number: u64)
     }
 }
 
-// How many of the eleven digits are leading zeros; the last digit is none. Most numbers are small, so the last places come first.
+// How many of the eleven digits are leading zeros; the last digit is none.
 fn leading_zeros(number: u64) -> usize
     requires { number < 100000000000 }
     ensures { Skips number result }
 {
-    // No bisection by `partition_point`: a number of four digits is told by its first four comparisons here.
-    for place in (1..DIGITS).rev() {
-        if number < place_value(place - 1) {
-            return place;
-        }
-    }
-    0
+    let first = PLACES.iter().position(|value| *value <= number);
+    first.unwrap_or(DIGITS - 1)
 }
 
 // Appends a number of at most eleven digits.
