@@ -1,10 +1,11 @@
-use Rattle.std.proofs.Common.{◌≡◌, ℕ, ◌++◌, length, take, vec_items, ap, ◌∙◌, subst, rules}
+use Rattle.std.proofs.Common.{◌≡◌, ℕ, true, ◌++◌, length, take, vec_items, ap, ◌∙◌, subst, rules}
 use Rattle.std.specs.List.{flat_map}
 use Rattle.records.specs.Cells.{cells}
 use Rattle.records.specs.Entries.{answer_of}
 use Rattle.intake.specs.Intake.{TakesIn}
 use Rattle.lines.specs.Lines.{spelled}
 use Rattle.report.specs.Output.{listed}
+use Rattle.report.specs.Turns.{Turn}
 use Rattle.report.proofs.Taking.{nothing_left, text_refused, record_taken}
 use Rattle.report.proofs.reading.turn.Goals as goal
 
@@ -30,6 +31,7 @@ returns c =
     c.min-count.ensures c.take_in-answer.ensures.step in
     let written = c.in_ok-push_if.ensures ∙ ap (λ l. vec_items c.args.out.now ++ flat_map spelled (listed l)) c.line_for.ensures in
     -- whatever became of the record, there was one
-    λ s holds.
+    let turned : Turn r r' c.args.sheet.now c.args.lot.now c.take_in-answer.new.sheet c.take_in-answer.new.lot (vec_items c.args.out.now) (vec_items c.push_if.new.out) true = λ s holds.
     record_taken r r' old new rec ten hands c.args.sheet.now c.take_in-answer.new.sheet c.args.lot.now c.take_in-answer.new.lot c.take_in-answer.result (vec_items c.args.out.now)
-    (vec_items c.push_if.new.out) s takes written holds
+    (vec_items c.push_if.new.out) s takes written holds in
+    turned
