@@ -1,7 +1,6 @@
--- The first number that passes a test, and the first that reaches a half-width.
-use Rattle.std.proofs.Common.{◌≡◌, ℕ, zero, suc, ◌*◌, ◌<◌, ◌≤◌, Bool, true, false, sym, refl, ◌∙◌, subst, ⊎_elim, mul-le-mul, arith}
-use native.Mathlib.Nat.{mul-mul-mul_comm}
-use Rattle.std.proofs.lemmas.Bool.{cases_eq, cases_Bool, leb-true, leb-false, le-leb, true≢false}
+-- The least number over a half-width is the first that reaches it.
+use Rattle.std.proofs.Common.{◌≡◌, ℕ, zero, suc, ◌*◌, ◌<◌, ◌≤◌, Bool, true, false, sym, refl, ◌∙◌, subst, ⊎_elim, arith}
+use Rattle.std.proofs.lemmas.Bool.{cases_eq, le-leb}
 use Rattle.expanded.specs.Expanded.{first_up_to, reaches, first_reaching, LeastOver}
 
 module _ (test : ℕ → Bool) where
@@ -20,24 +19,7 @@ module _ (test : ℕ → Bool) where
       (λ ne. rw (first_found n i (omega arith) passes fails, passes) refl)
       (cases_eq i (suc n))
 
-pub square_le : (i j : ℕ) → i ≤ j → i * i ≤ j * j
-square_le i j h = mul-le-mul h h
-
--- a number above one that reaches the half-width reaches it too
-reaches_on : (s i j : ℕ) → i ≤ j → reaches s i ≡ true → reaches s j ≡ true
-reaches_on s i j h passes = le-leb (4 * (s * s)) (3 * (j * j)) (omega (arith, leb-true (4 * (s * s)) (3 * (i * i)) passes, square_le i j h))
-
-pub failed_before : (s i j : ℕ) → i ≤ j → reaches s j ≡ false → reaches s i ≡ false
-failed_before s i j h fails = ⊎_elim (λ passes. absurd (true≢false (sym (reaches_on s i j h passes) ∙ fails))) (λ e. e) (cases_Bool (reaches s i))
-
 -- twice the half-width reaches it
-pub twice_reaches : (s : ℕ) → reaches s (2 * s) ≡ true
-twice_reaches s = le-leb (4 * (s * s)) (3 * (2 * s * (2 * s))) (omega (arith, mul-mul-mul_comm 2 s 2 s))
-
-pub least_over : (s n : ℕ) → reaches s n ≡ true → ((m : ℕ) → m < n → reaches s m ≡ false) → LeastOver s n
-least_over s n passes fails = record { reached = leb-true (4 * (s * s)) (3 * (n * n)) passes; least = λ m h. leb-false (4 * (s * s)) (3 * (m * m)) (fails m h) }
-
--- the least number is the first, and at most twice the half-width
 pub at_most_twice : (s n : ℕ) → LeastOver s n → n ≤ 2 * s
 at_most_twice s n l = grind (arith, l.least (2 * s))
 

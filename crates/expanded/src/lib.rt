@@ -2,35 +2,23 @@
 #![tactic(auto)]
 
 ghost use Rattle.std.specs.Prelude.{◌≡◌, ◌≤◌, pos, ◌≤ℤ◌};
-ghost use Rattle.expanded.specs.Expanded.{reaches, expanded_of, LeastOver, FollowsRule};
+ghost use Rattle.expanded.specs.Expanded.{expanded_of, LeastOver, FollowsRule};
 
 use kinds::Kind;
 
-// Whether three times the square of a number is at least four times the square of the half-width.
-fn reaches(half_width: u64, number: u64) -> bool
-    requires { (half_width ≤ 400000) × (number ≤ 800000) }
-    ensures { result ≡ reaches half_width number }
-{
-    4 * (half_width * half_width) <= 3 * (number * number)
-}
-
-// The first number that reaches the half-width; twice the half-width does.
-// Bisected here, since `u64::isqrt` takes 100 to 250 instructions more for each item, 1 to 3 % of the program's, and the library searches slices alone.
-fn first_reaching(half_width: u64) -> u64
+// Twice the half-width over the square root of 3, rounded up: the root rounded down, or the next number where that falls short.
+fn first_reaching(half_width: u32) -> u64
     requires { half_width ≤ 400000 }
     ensures { LeastOver half_width result }
 {
-    let mut low = 0;
-    let mut high = 2 * half_width;
-    while low < high {
-        let middle = low + (high - low) / 2;
-        if reaches(half_width, middle) {
-            high = middle;
-        } else {
-            low = middle + 1;
-        }
+    let half_width = u64::from(half_width);
+    let due = 4 * (half_width * half_width);
+    let root = (due / 3).isqrt();
+    if 3 * (root * root) < due {
+        root + 1
+    } else {
+        root
     }
-    low
 }
 
 // The expanded uncertainty of a kind, in steps. A rectangular kind's standard uncertainty is its half-width over the square root of 3.
@@ -41,10 +29,7 @@ pub fn expanded_uncertainty(kind: &Kind) -> i64
 {
     match kind {
         Kind::Normal(normal) => 2 * i64::from(normal.standard_uncertainty()),
-        Kind::Rectangular(rectangular) => {
-            let half_width = u64::from(rectangular.half_width());
-            first_reaching(half_width) as i64
-        }
+        Kind::Rectangular(rectangular) => first_reaching(rectangular.half_width()) as i64,
     }
 }
 

@@ -9,7 +9,7 @@ returns-in-Rectangular-clause-value c = grind (arith, ints, first_of_least _ _ c
 
 pub returns-in-Rectangular-clause-rule : goal.returns-in-Rectangular-clause-rule
 returns-in-Rectangular-clause-rule c =
-    let least = rw (c.from-half_width.ensures, c.half_width.ensures) at c.first_reaching.ensures in
+    let least = rw c.half_width.ensures at c.first_reaching.ensures in
     rw c.in-Rectangular.is (subst (LeastOver _) (first_of_least _ _ least) least)
 
 pub returns-in-Rectangular-clause-within : goal.returns-in-Rectangular-clause-within
