@@ -59,3 +59,9 @@ refuses_first P Q (Some e) later f a = a
 pub passes_first : {T : Type 0} (Q : T → Type 0) (earlier later : Option Refusal) (r : Result T Fault)
     → earlier ≡ None → AnswersBy later r Q → AnswersBy (first_of earlier later) r Q
 passes_first Q earlier later r h a = subst (λ o. AnswersBy (first_of o later) r Q) (sym h) a
+
+-- a call that passed its earlier checks answers by the later ones
+pub goes_on : {S T : Type 0} (P : S → Type 0) (Q : T → Type 0) (earlier later : Option Refusal) (x : S) (r : Result T Fault)
+    → AnswersBy earlier (Ok x) P → AnswersBy later r Q → AnswersBy (first_of earlier later) r Q
+goes_on P Q None later x r a b = b
+goes_on P Q (Some e) later x r a b = absurd a

@@ -33,6 +33,7 @@ impl Kind {
     }
 }
 
+// A match and no `dyn`: that would need memory from outside, and hide that there are these two kinds and no other.
 impl Knowledge for Kind {
     ghost answers = { answered };
 

@@ -106,7 +106,7 @@ impl Knowledge for Normal {
 
 // Floor and ceiling at an offset from those at its mirror image about the reading.
 fn mirrored(image: (u32, u32)) -> (u32, u32)
-    requires { (image.0 ≤ 1000000) × (image.1 ≤ 1000000) }
+    requires { (image.0 ≤ million) × (image.1 ≤ million) }
     ensures { (result.0 ≡ million - image.1) × (result.1 ≡ million - image.0) }
 {
     let (floor, ceiling) = image;

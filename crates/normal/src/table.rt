@@ -37,7 +37,7 @@ pub fn chord_over(tenth: u64) -> Option<Chord>
 
 // The value at this many tenths.
 fn value_at(tenth: u64) -> u32
-    requires { tenth ≤ 40 }
+    requires { tenth ≤ TENTHS }
     ensures { result ≡ value tenth }
 {
     TABLE[tenth as usize]

@@ -6,11 +6,12 @@
 ghost use Rattle.std.specs.Prelude.{◌≡◌, ◌*◌, ◌&&◌, pos, neg_ℤ, ◌≤ℤ◌, nat_le};
 ghost use Rattle.normal.specs.Normal.{normal};
 
-use anyhow::anyhow;
+use anyhow::Context;
 use bias::Biased;
 use knowledge::{Knowledge, nearest_offset};
 use normal::Normal;
 use std::io::{BufRead, BufReader};
+use std::str::FromStr;
 
 // Units of the true probability in a millionth.
 const UNITS: u64 = 1_000_000;
@@ -24,19 +25,20 @@ struct Row {
     upper: u64,
 }
 
-// The row that a line spells, if it does.
-fn parse(line: &str) -> Option<Row> {
-    let mut fields = line.split(' ');
-    let standard_uncertainty = fields.next()?.parse::<i64>().ok()?;
-    let offset = fields.next()?.parse::<i64>().ok()?;
-    let lower = fields.next()?.parse::<u64>().ok()?;
-    let upper = fields.next()?.parse::<u64>().ok()?;
-    Some(Row {
-        standard_uncertainty,
-        offset,
-        lower,
-        upper,
-    })
+// The row that a line spells.
+impl FromStr for Row {
+    type Err = anyhow::Error;
+
+    fn from_str(line: &str) -> anyhow::Result<Self> {
+        let mut fields = line.split(' ');
+        let mut field = || fields.next().context("a line is not four numbers");
+        Ok(Row {
+            standard_uncertainty: field()?.parse()?,
+            offset: field()?.parse()?,
+            lower: field()?.parse()?,
+            upper: field()?.parse()?,
+        })
+    }
 }
 
 // Whether the true probability lies from the floor to the ceiling.
@@ -59,12 +61,10 @@ fn main(rt: HostRuntime) -> anyhow::Result<()> {
     let mut outside = 0u64;
     let mut different = 0u64;
     for line in BufReader::new(rt.alloc(), rt.stdin())?.lines(rt.alloc()) {
-        let Some(row) = parse(line?.as_str()) else {
-            return Err(anyhow!("a line is not four numbers"));
-        };
-        let Ok(kind) = Normal::new(row.standard_uncertainty) else {
-            return Err(anyhow!("a standard uncertainty is out of range"));
-        };
+        let row = line?.parse::<Row>().context("a line is not four numbers")?;
+        let kind = Normal::new(row.standard_uncertainty).context(
+            "a standard uncertainty is out of range",
+        )?;
         let (floor, ceiling) = kind.at_most(row.offset);
         if !brackets(floor, ceiling, &row) {
             outside = outside.wrapping_add(1);

@@ -7,9 +7,7 @@ mod rows;
 mod rules;
 mod tolerance;
 
-pub use requirements::Requirement;
-pub use requirements::methods::{LAST_CHARACTERISTIC, LAST_CLASS, is_characteristic, is_class};
+pub use requirements::{LAST_CHARACTERISTIC, LAST_CLASS, Requirement, is_characteristic, is_class};
 pub use rows::RequirementRow;
 pub use rules::{Mode, Rule, names_rule};
-pub use tolerance::Tolerance;
-pub use tolerance::methods::{REACH, in_reach, limit_in_reach, within};
+pub use tolerance::{REACH, Tolerance, in_reach, limit_in_reach, within};

@@ -43,6 +43,7 @@ fn is_share(value: i64) -> bool
 
 impl Rule {
     // The rule that the letter names, with its numbers; the second is 0 unless the rule has two.
+    // No `TryFrom`: it would take letter and numbers as one triple, which says no more than three parameters do.
     pub fn from_letter(letter: char, first: i64, second: i64) -> Option<Self>
         ensures { result ≡ rule_of letter first second }
     {

@@ -29,8 +29,8 @@ fn whole<'a>(bytes: &'a [u8], state: State) -> Field<'a>
     requires { SoFar state bytes.now × Complete state }
     ensures { IsField (form result) × (spelling (form result) ≡ bytes.now) }
 {
-    match (state, bytes) {
-        (State::AfterQuote, [_, inner @ .., _]) => Field::Quoted(inner),
+    match state {
+        State::AfterQuote => Field::Quoted(&bytes[1..bytes.len() - 1]),
         _ => Field::Bare(bytes),
     }
 }
@@ -40,9 +40,10 @@ fn past<'a>(tail: &'a [u8], ending: Ending) -> &'a [u8]
     requires { (after : List ℕ) × Ended ending after tail.now }
     ensures { Ended ending result.now tail.now }
 {
-    match (ending, tail) {
-        (Ending::Comma, [_, after @ ..]) | (Ending::Line, [_, _, after @ ..]) => after,
-        _ => tail,
+    match ending {
+        Ending::Comma => &tail[1..],
+        Ending::Line => &tail[2..],
+        Ending::Text => tail,
     }
 }
 
