@@ -1,8 +1,8 @@
 -- The least number that passes a test, and what the rules of the answers say of the tests on shares.
-use Rattle.std.proofs.Common.{◌≡◌, ℕ, zero, suc, ◌-◌, ◌<◌, ◌≤◌, Bool, true, false, ◌≤ℤ◌, Some, None, Option, sym, refl, ◌∙◌, subst, ⊎_elim, not-suc-le-zero, arith, MatchOption}
+use Rattle.std.proofs.Common.{◌≡◌, ℕ, zero, suc, ◌<◌, ◌≤◌, Bool, true, false, Some, None, Option, sym, refl, subst, ⊎_elim, not-suc-le-zero, arith, MatchOption}
 use Rattle.std.proofs.lemmas.Int.{ints}
-use Rattle.std.proofs.lemmas.Bool.{cases_eq, cases_Bool, leb-true, le-leb, true≢false}
-use Rattle.knowledge.specs.Millionths.{million}
+use Rattle.std.proofs.lemmas.Bool.{cases_eq, cases_Bool}
+use Rattle.std.proofs.lemmas.Bool.Decides.{nat_tests}
 use Rattle.knowledge.specs.Knowledge.{Answers, Rules}
 use Rattle.acceptance.specs.Search.{or_else, first_below, offset_at, keeps_share}
 use Rattle.acceptance.specs.declared.search.Side.{Side}
@@ -41,13 +41,13 @@ module _ (k : Answers) (r : Rules k) where
   -- a side that keeps its share goes on keeping it
   pub keeps_on : (side : Side) (share i j : ℕ) → i ≤ j → keeps_share k side share i ≡ true → keeps_share k side share j ≡ true
   keeps_on Lower share i j le h =
-      let under : offset_at Lower j ≤ℤ offset_at Lower i = omega (arith, ints) in
-      le-leb (k.ceiling (offset_at Lower j)) share (omega (arith, leb-true (k.ceiling (offset_at Lower i)) share h, r.ceiling_rises (offset_at Lower j) (offset_at Lower i) under))
+      let rises = r.ceiling_rises (offset_at Lower j) (offset_at Lower i) (omega (arith, ints)) in
+      grind (arith, nat_tests)
   keeps_on Upper share i j le h =
-      let over : offset_at Upper i ≤ℤ offset_at Upper j = omega (arith, ints) in
-      le-leb (million - share) (k.floor (offset_at Upper j)) (omega (arith, leb-true (million - share) (k.floor (offset_at Upper i)) h, r.floor_rises (offset_at Upper i) (offset_at Upper j) over))
+      let rises = r.floor_rises (offset_at Upper i) (offset_at Upper j) (omega (arith, ints)) in
+      grind (arith, nat_tests)
 
   -- and one that fails it failed it before
   pub failed_before : (side : Side) (share i j : ℕ) → i ≤ j → keeps_share k side share j ≡ false → keeps_share k side share i ≡ false
   failed_before side share i j le h =
-      ⊎_elim (λ kept. absurd (true≢false (sym (keeps_on side share i j le kept) ∙ h))) (λ fails. fails) (cases_Bool (keeps_share k side share i))
+      ⊎_elim (λ kept. cc (keeps_on side share i j le kept)) (λ fails. fails) (cases_Bool (keeps_share k side share i))

@@ -61,10 +61,6 @@ pub fn limits<K: Knowledge>(
     ensures { AnswersBy (limits_refusal requirement.now expanded (K.answers knowledge.now)) result (λ a. Some a ≡ acceptance requirement.now expanded (K.answers knowledge.now)) }
 {
     let acceptance = by_rule(requirement, expanded, knowledge)?;
-    match (acceptance.lower, acceptance.upper) {
-        (Some(lower), Some(upper)) if lower > upper => Err(Fault::direct(
-            Refusal::NothingAcceptable,
-        )),
-        _ => Ok(acceptance),
-    }
+    Refusal::NothingAcceptable.unless(acceptance.in_order())?;
+    Ok(acceptance)
 }

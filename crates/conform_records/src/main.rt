@@ -9,6 +9,7 @@ use std::io::{Read, Write};
 use text::LONGEST;
 
 // Reads until the input ends or the buffer is full, and answers how many bytes were read.
+// The count goes beside a fixed buffer, so that nothing is allocated to read, and a text too long is told without reading on.
 fn fill(input: &mut impl Read, buffer: &mut [u8]) -> io::Result<usize>
     ensures { IfOk result (λ n. n ≤ length buffer.new) }
 {
@@ -24,7 +25,7 @@ fn fill(input: &mut impl Read, buffer: &mut [u8]) -> io::Result<usize>
 }
 
 fn main(rt: HostRuntime) -> io::Result<()> {
-    // One byte more than a text may have, so that a longer one is told without reading on.
+    // One byte more than a text may have, so that a longer one shows.
     let mut buffer = [0; LONGEST + 1];
     let count = fill(&mut rt.stdin(), &mut buffer)?;
     let output = report(rt.alloc(), &buffer[..count])?;

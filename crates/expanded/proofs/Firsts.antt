@@ -1,5 +1,5 @@
 -- The first number that passes a test, and the first that reaches a half-width.
-use Rattle.std.proofs.Common.{◌≡◌, ℕ, zero, suc, ◌*◌, ◌<◌, ◌≤◌, Bool, true, false, sym, refl, ap, ◌∙◌, subst, ⊎_elim, mul-le-mul, arith}
+use Rattle.std.proofs.Common.{◌≡◌, ℕ, zero, suc, ◌*◌, ◌<◌, ◌≤◌, Bool, true, false, sym, refl, ◌∙◌, subst, ⊎_elim, mul-le-mul, arith}
 use native.Mathlib.Nat.{mul-mul-mul_comm}
 use Rattle.std.proofs.lemmas.Bool.{cases_eq, cases_Bool, leb-true, leb-false, le-leb, true≢false}
 use Rattle.expanded.specs.Expanded.{first_up_to, reaches, first_reaching, LeastOver}
@@ -11,7 +11,7 @@ module _ (test : ℕ → Bool) where
   first_none zero fails = refl
   first_none (suc n) fails = rw (first_none n (λ i h. fails i (omega arith)), fails n (omega arith)) refl
 
-  pub first_found : (n i : ℕ) → i ≤ n → test i ≡ true → ((j : ℕ) → j < i → test j ≡ false) → first_up_to test n ≡ i
+  first_found : (n i : ℕ) → i ≤ n → test i ≡ true → ((j : ℕ) → j < i → test j ≡ false) → first_up_to test n ≡ i
   unfolding first_up_to
   first_found zero i h passes fails = omega arith
   first_found (suc n) i h passes fails =
@@ -34,16 +34,12 @@ failed_before s i j h fails = ⊎_elim (λ passes. absurd (true≢false (sym (re
 pub twice_reaches : (s : ℕ) → reaches s (2 * s) ≡ true
 twice_reaches s = le-leb (4 * (s * s)) (3 * (2 * s * (2 * s))) (omega (arith, mul-mul-mul_comm 2 s 2 s))
 
--- what the bisection finds is the first, and the least
-pub found : (s n : ℕ) → n ≤ 2 * s → reaches s n ≡ true → ((m : ℕ) → m < n → reaches s m ≡ false) → n ≡ first_reaching s
-found s n within passes fails = sym (first_found (reaches s) (2 * s) n within passes fails)
-
 pub least_over : (s n : ℕ) → reaches s n ≡ true → ((m : ℕ) → m < n → reaches s m ≡ false) → LeastOver s n
 least_over s n passes fails = record { reached = leb-true (4 * (s * s)) (3 * (n * n)) passes; least = λ m h. leb-false (4 * (s * s)) (3 * (m * m)) (fails m h) }
 
--- the same said of an equal half-width
-pub first_of_equal : (s t n : ℕ) → s ≡ t → n ≡ first_reaching s → n ≡ first_reaching t
-first_of_equal s t n e first = first ∙ ap first_reaching e
+-- the least number is the first, and at most twice the half-width
+pub at_most_twice : (s n : ℕ) → LeastOver s n → n ≤ 2 * s
+at_most_twice s n l = grind (arith, l.least (2 * s))
 
-pub least_of_equal : (s t n : ℕ) → s ≡ t → n ≡ first_reaching t → LeastOver s n → LeastOver t (first_reaching t)
-least_of_equal s t n e first least = subst (LeastOver t) first (subst (λ w. LeastOver w n) e least)
+pub first_of_least : (s n : ℕ) → LeastOver s n → n ≡ first_reaching s
+first_of_least s n l = sym (first_found (reaches s) (2 * s) n (at_most_twice s n l) (le-leb _ _ l.reached) (λ m h. grind (arith, l.least m h)))

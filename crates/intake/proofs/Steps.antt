@@ -1,10 +1,11 @@
 -- What stands after a requirement was added or an item entered.
-use Rattle.std.proofs.Common.{◌≡◌, ℕ, Bool, cond, ◌&&◌, ◌||◌, T, eqb, List, ◌∷◌, map, length, ℤ, pos, negsuc, nat_abs, ◌≤ℤ◌, is_some, Some, None, Ok, Err, Option, Result, sym, refl, ap, ◌∙◌, subst, arith, w32, Fits}
+use Rattle.std.proofs.Common.{◌≡◌, ℕ, Bool, true, cond, ◌&&◌, ◌||◌, T, eqb, List, ◌∷◌, map, length, ℤ, pos, negsuc, nat_abs, ◌≤ℤ◌, is_some, Some, None, Ok, Err, Option, Result, sym, refl, ap, ◌∙◌, subst, arith, w32, Fits}
 use lib.Signed.{non_neg}
 use Rattle.std.proofs.lemmas.List.Edits.{length-insert}
 use Rattle.std.proofs.lemmas.List.{length-map}
 use Rattle.std.proofs.lemmas.Int.{ints}
-use Rattle.std.proofs.lemmas.Bool.{not-true, and_parts}
+use Rattle.std.specs.Result.{MatchResult, is_ok}
+use Rattle.std.proofs.lemmas.Bool.{true≢false, not-true, and_parts}
 use Rattle.faults.specs.Faults.{AnswersBy}
 use Rattle.faults.specs.declared.Fault.{Fault}
 use Rattle.faults.specs.declared.Refusal.{Refusal}
@@ -47,6 +48,16 @@ use Rattle.intake.proofs.Standing.{lookup_inserted, stands_inserted, row_inserte
 refused_as : {T : Type 0} (Q : T → Type 0) (o : Option Refusal) (f : Fault) → AnswersBy o (Err f) Q → o ≡ Some f.refusal
 refused_as Q None f a = absurd a
 refused_as Q (Some e) f a = ap Some (sym (ap (λ x. x.refusal) a))
+
+-- what an answer was before its fault was exchanged, where Q is what the exchange says of the fault
+module _ {T : Type 0} (Q : Fault → Type 0) where
+  pub was_ok : (r : Result T Fault) (x : T) → MatchResult r (λ y. ◌≡◌ {A = Result T Fault} (Ok x) (Ok y)) Q → true ≡ is_ok r → r ≡ Ok x
+  was_ok (Ok y) x h ok = sym h
+  was_ok (Err e) x h ok = absurd (true≢false ok)
+
+  pub was_err : (r : Result T Fault) (d : Fault) → MatchResult r (λ y. ◌≡◌ {A = Result T Fault} (Err d) (Ok y)) Q → (e : Fault) × (r ≡ Err e) × Q e
+  was_err (Ok y) d h = cc h
+  was_err (Err e) d h = (e, refl, h)
 
 abbrev Nothing : Unit {0} → Type 0
 Nothing x = Unit {0}

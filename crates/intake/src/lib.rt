@@ -20,6 +20,7 @@ use sheet::Sheet;
 use text::Placed;
 
 // What became of a record that was not refused: a requirement was added, or the item of a number was judged.
+// No Option: a reader finds `Added` where `None` would say that nothing was taken in.
 #[derive(Clone, Copy)]
 pub enum Taken {
     Added,
@@ -54,14 +55,11 @@ fn add(number: u32, row: &RequirementRow, sheet: &mut Sheet<'_>) -> Result<Taken
     ensures step { Adds number row.now result sheet.old sheet.new }
     ensures lists { LeftByAdding row.now sheet.old.table sheet.new.table }
 {
-    let requirement = match Requirement::new(row) {
-        Ok(requirement) => requirement,
-        Err(fault) => return Err(placed(fault, number)),
-    };
-    match sheet.add(requirement) {
-        Ok(()) => Ok(Taken::Added),
-        Err(fault) => Err(placed(fault, number)),
-    }
+    let requirement = Requirement::new(row).map_err(|fault| placed(fault, number))?;
+    sheet
+        .add(requirement)
+        .map_err(|fault| placed(fault, number))?;
+    Ok(Taken::Added)
 }
 
 // What is entered of a record's item.
@@ -84,13 +82,14 @@ fn enter(number: u32, row: &ItemRow, sheet: &Sheet<'_>, lot: &mut Lot<'_>) -> Re
     ensures lists { LeftByEntering (item_meant row.now) sheet.now lot.old lot.new }
 {
     let knowledge = Biased::new(row.kind, row.bias);
-    match lot.enter(sheet, &fields_of(row), &knowledge) {
-        Ok(judgement) => Ok(Taken::Judged(row.number as u32, judgement)),
-        Err(fault) => Err(placed(fault, number)),
-    }
+    let judgement = lot
+        .enter(sheet, &fields_of(row), &knowledge)
+        .map_err(|fault| placed(fault, number))?;
+    Ok(Taken::Judged(row.number as u32, judgement))
 }
 
 // Takes in a record: a requirement for the sheet, or an item for the lot.
+// Sheet and lot come as two: the first changes the one alone, and the second reads it while it changes the other.
 pub fn take_in(
     number: u32,
     fields: &[Placed<'_>],

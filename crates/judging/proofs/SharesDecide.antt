@@ -44,32 +44,26 @@ later_admits : (side : Side) (limit y : ℤ) (i n : ℕ) → offset_at side n �
 later_admits Lower limit y i n e h = grind (arith, ints)
 later_admits Upper limit y i n e h = grind (arith, ints)
 
-none_some : {T : Type 0} (x : T) → None ≡ Some x → ⊥
-none_some x e = let z : ◌≡◌ {A = ℕ} 0 1 = cc in omega arith
-
 -- an acceptance limit that was found comes from a place of the search
 found_out : (f : ℕ → ℤ) (o : Option ℕ) (limit : ℤ) (a : Option ℤ) → option_map (λ x. Some (limit -ℤ x)) (option_map f o) ≡ Some a → (i : ℕ) × (o ≡ Some i) × (a ≡ Some (limit -ℤ f i))
-found_out f None limit a e = absurd (none_some a e)
+found_out f None limit a e = cc
 found_out f (Some i) limit a e = (i, refl, cc)
 
 both_out : (l u : Option (Option ℤ)) (a : Acceptance) → both_limits l u ≡ Some a → (l ≡ Some a.lower) × (u ≡ Some a.upper)
-both_out None u a e = absurd (none_some a e)
-both_out (Some l) None a e = absurd (none_some a e)
-both_out (Some l) (Some u) a e = let same : ◌≡◌ {A = Acceptance} (record { lower = l; upper = u }) a = cc in (ap (λ x. Some x.lower) same, ap (λ x. Some x.upper) same)
+both_out None u a e = cc
+both_out (Some l) None a e = cc
+both_out (Some l) (Some u) a e = (cc, cc)
 
 -- only an accepted reading passes
 no_pass : (b b' : Bool) → cond b ConditionalPass (cond b' ConditionalFail Fail) ≡ Pass → ⊥
-no_pass true b' e = let z : ◌≡◌ {A = ℕ} 0 1 = cc in omega arith
-no_pass false true e = let z : ◌≡◌ {A = ℕ} 0 1 = cc in omega arith
-no_pass false false e = let z : ◌≡◌ {A = ℕ} 0 1 = cc in omega arith
-
-never_pass : (mode : Mode) (l u : Option ℤ) (w y : ℤ) → not_accepted mode l u w y ≡ Pass → ⊥
-never_pass Two l u w y e = let z : ◌≡◌ {A = ℕ} 0 1 = cc in omega arith
-never_pass Four l u w y e = no_pass (within l u y) (widened l u w y) e
+no_pass true b' e = cc
+no_pass false true e = cc
+no_pass false false e = cc
 
 pass_accepted : (b : Bool) (mode : Mode) (l u : Option ℤ) (w y : ℤ) → cond b Pass (not_accepted mode l u w y) ≡ Pass → b ≡ true
 pass_accepted true mode l u w y e = refl
-pass_accepted false mode l u w y e = absurd (never_pass mode l u w y e)
+pass_accepted false Two l u w y e = cc
+pass_accepted false Four l u w y e = absurd (no_pass (within l u y) (widened l u w y) e)
 
 module _ (k : Answers) (r : Rules k) where
   -- the answer at an offset keeps a side's share

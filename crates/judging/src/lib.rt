@@ -64,9 +64,7 @@ pub fn bracket<K: Knowledge>(
 ) -> Result<Bracket, Fault>
     ensures { AnswersBy (reading_refusal reading) result (λ b. (b ≡ bracketed (K.answers knowledge.now) requirement.now.tolerance reading) × BracketHolds (K.answers knowledge.now) requirement.now.tolerance reading b) }
 {
-    if !in_reach(reading) {
-        return Err(Fault::direct(Refusal::OutOfRange));
-    }
+    Refusal::OutOfRange.unless(in_reach(reading))?;
     Ok(bounds(&requirement.tolerance(), reading, knowledge))
 }
 

@@ -2,8 +2,7 @@
 use Rattle.std.specs.Prelude.{ℕ, List, [], ◌∷◌, ◌++◌, codes, decimal}
 use Rattle.std.specs.List.{flat_map}
 use Rattle.faults.specs.Numbers.{number, layer}
-use Rattle.judging.specs.declared.answers.Verdict.{Verdict}
-use Rattle.judging.specs.declared.answers.Verdict.TheVariants.{Pass, ConditionalPass, ConditionalFail, Fail}
+use Rattle.judging.specs.Words.{word_for}
 use Rattle.lines.specs.declared.cells.Cell.{Cell}
 use Rattle.lines.specs.declared.cells.Cell.TheVariants.{Word, Number}
 use Rattle.lines.specs.declared.forms.Line.{Line}
@@ -21,7 +20,7 @@ LF = 10
 
 -- a word is written as it is, a number in its shortest decimal form
 abbrev pub written : Cell → List ℕ
-written (Word bytes) = bytes.now
+written (Word w) = w.now
 written (Number n) = decimal n
 
 -- fields with a comma before each
@@ -36,13 +35,6 @@ separated (f ∷ fs) = f ++ following fs
 -- fields as a line, which CR LF ends
 abbrev pub line_of : List (List ℕ) → List ℕ
 line_of fs = separated fs ++ CR ∷ LF ∷ []
-
--- the word for a verdict
-abbrev pub word_for : Verdict → List ℕ
-word_for Pass = codes "pass"
-word_for ConditionalPass = codes "cpass"
-word_for ConditionalFail = codes "cfail"
-word_for Fail = codes "fail"
 
 -- the five fields of a line
 abbrev pub fields_of : Line → List (List ℕ)

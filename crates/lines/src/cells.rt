@@ -8,17 +8,17 @@ use std::alloc::AllocError;
 // One field of a line: a word, or a number in its shortest decimal form.
 #[derive(Clone, Copy)]
 pub(crate) enum Cell {
-    Word(&'static [u8]),
+    Word(&'static str),
     Number(u64),
 }
 
 impl Cell {
-    // Appends the field.
+    // Appends the field. No `Display`, since the contract gives every byte, by `push_decimal`'s digits, and nothing but the output is allocated.
     fn push(self, out: &mut Vec<u8>) -> Result<(), AllocError>
         ensures { OnOk result (out.new.items ≡ out.old.items ++ written self) }
     {
         match self {
-            Cell::Word(bytes) => out.extend_from_slice(bytes),
+            Cell::Word(word) => out.extend_from_slice(word.as_bytes()),
             Cell::Number(value) => push_decimal(out, value),
         }
     }
@@ -39,6 +39,7 @@ fn push_following(out: &mut Vec<u8>, cells: &[Cell]) -> Result<(), AllocError>
 pub(crate) fn push_line(out: &mut Vec<u8>, cells: &[Cell; 5]) -> Result<(), AllocError>
     ensures { OnOk result (out.new.items ≡ out.old.items ++ line_of (map written cells.now)) }
 {
+    // By index, since the check does not take an array's part by a pattern.
     cells[0].push(out)?;
     push_following(out, &cells[1..])?;
     out.extend_from_slice(b"\r\n")

@@ -1,10 +1,10 @@
 // The four kinds of line.
 ghost use Rattle.std.specs.Prelude.{◌≡◌, ◌++◌, map, OnOk};
-ghost use Rattle.lines.specs.Lines.{written, word_for, fields_of, spelled};
+ghost use Rattle.lines.specs.Lines.{written, fields_of, spelled};
 
 use crate::cells::{Cell, push_line};
 use faults::Fault;
-use judging::{Judgement, Verdict};
+use judging::Judgement;
 use lot::Row;
 use std::alloc::AllocError;
 
@@ -17,18 +17,6 @@ pub enum Line {
     Class { class: u8, row: Row },
 }
 
-// The word for a verdict.
-fn word(verdict: Verdict) -> &'static [u8]
-    ensures { result.now ≡ word_for verdict }
-{
-    match verdict {
-        Verdict::Pass => b"pass",
-        Verdict::ConditionalPass => b"cpass",
-        Verdict::ConditionalFail => b"cfail",
-        Verdict::Fail => b"fail",
-    }
-}
-
 impl Line {
     // The five fields of the line.
     fn cells(self) -> [Cell; 5]
@@ -36,28 +24,28 @@ impl Line {
     {
         match self {
             Line::Header => [
-                Cell::Word(b"line"),
-                Cell::Word(b"key"),
-                Cell::Word(b"outcome"),
-                Cell::Word(b"floor"),
-                Cell::Word(b"ceiling"),
+                Cell::Word("line"),
+                Cell::Word("key"),
+                Cell::Word("outcome"),
+                Cell::Word("floor"),
+                Cell::Word("ceiling"),
             ],
             Line::Item { number, judgement } => [
-                Cell::Word(b"item"),
+                Cell::Word("item"),
                 Cell::Number(u64::from(number)),
-                Cell::Word(word(judgement.verdict)),
+                Cell::Word(judgement.verdict.word()),
                 Cell::Number(u64::from(judgement.bracket.floor)),
                 Cell::Number(u64::from(judgement.bracket.ceiling)),
             ],
             Line::Refused(fault) => [
-                Cell::Word(b"refused"),
+                Cell::Word("refused"),
                 Cell::Number(u64::from(fault.record)),
                 Cell::Number(u64::from(fault.refusal.number())),
                 Cell::Number(u64::from(fault.refusal.layer())),
                 Cell::Number(u64::from(fault.field)),
             ],
             Line::Class { class, row } => [
-                Cell::Word(b"class"),
+                Cell::Word("class"),
                 Cell::Number(u64::from(class)),
                 Cell::Number(u64::from(row.passes)),
                 Cell::Number(row.lesser),
@@ -78,7 +66,7 @@ impl Line {
 mod tests {
     use super::*;
     use faults::Refusal;
-    use judging::Bracket;
+    use judging::{Bracket, Verdict};
     use std::process::Abort;
     use std::test::Fail;
 

@@ -1,31 +1,15 @@
 -- The rows of a lot, row by row and as a whole.
-use Rattle.std.proofs.Common.{◌≡◌, ℕ, zero, suc, ◌+◌, ◌<◌, List, [], ◌∷◌, get_or, sym, refl, ap, ◌∙◌, subst, arith}
-use Rattle.std.proofs.lemmas.List.{same_lists, get_or-map}
+use Rattle.std.proofs.Common.{◌≡◌, ◌+◌, ◌<◌, List, sym, refl, ◌∙◌, subst, arith}
+use Rattle.std.proofs.lemmas.List.{same_lists}
+use Rattle.std.proofs.lemmas.List.FromFn.{get_or-map-range_with_len}
 use Rattle.lot.specs.Rows.{row_of}
 use Rattle.lot.specs.declared.items.Item.{Item}
 use Rattle.lot.proofs.Shares.{NineTallied}
 use Rattle.lot_calls.specs.Sizes.{rows_of}
 use Rattle.lot_calls.specs.declared.rows.Rows.{Rows}
 
--- the class at each place
-class_at : (c : ℕ) → c < 9 → get_or (1 ∷ 2 ∷ 3 ∷ 4 ∷ 5 ∷ 6 ∷ 7 ∷ 8 ∷ 9 ∷ []) c 0 ≡ c + 1
-class_at zero within = omega arith
-class_at (suc zero) within = omega arith
-class_at (suc (suc zero)) within = omega arith
-class_at (suc (suc (suc zero))) within = omega arith
-class_at (suc (suc (suc (suc zero)))) within = omega arith
-class_at (suc (suc (suc (suc (suc zero))))) within = omega arith
-class_at (suc (suc (suc (suc (suc (suc zero)))))) within = omega arith
-class_at (suc (suc (suc (suc (suc (suc (suc zero))))))) within = omega arith
-class_at (suc (suc (suc (suc (suc (suc (suc (suc zero)))))))) within = omega arith
-class_at (suc (suc (suc (suc (suc (suc (suc (suc (suc c))))))))) within = absurd (omega arith)
-
 nine_rows : (items : List Item) → NineTallied items (rows_of items).by_class
-nine_rows items = (
-  refl,
-  λ c d within.
-      get_or-map (λ k. row_of k items) (1 ∷ 2 ∷ 3 ∷ 4 ∷ 5 ∷ 6 ∷ 7 ∷ 8 ∷ 9 ∷ []) c 0 d within ∙ ap (λ k. row_of k items) (class_at c within),
-)
+nine_rows items = (refl, λ c d within. get_or-map-range_with_len (λ k. row_of k items) 1 9 c (c + 1) d within (omega arith))
 
 pub tallied_by : (items : List Item) (rows : Rows) → rows ≡ rows_of items → NineTallied items rows.by_class
 tallied_by items rows is = subst (λ (rs : Rows). NineTallied items rs.by_class) (sym is) (nine_rows items)

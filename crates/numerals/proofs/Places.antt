@@ -1,5 +1,6 @@
 -- Digits by their places, and the decimal form made of them.
-use Rattle.std.proofs.Common.{◌≡◌, ℕ, zero, suc, ◌+◌, ◌-◌, ◌*◌, ◌/◌, ◌%◌, ◌^◌, ◌<◌, ◌≤◌, Bool, true, false, cond, List, [], ◌∷◌, ◌++◌, length, get_or, take, drop, set, decimal, sym, refl, ap, ◌∙◌, subst, append_assoc, append-nil, mod-lt, mod-eq_of_lt, mul_comm, div-lt_iff_lt-mul, pow-suc, le-div_iff_mul-le, div-le_self, div-one, arith, length-set}
+use Rattle.std.specs.List.{AllWithin, HoldsAt}
+use Rattle.std.proofs.Common.{◌≡◌, MatchOption, Option, Some, None, unwrap_or, rules, ℕ, zero, suc, ◌+◌, ◌-◌, ◌*◌, ◌/◌, ◌%◌, ◌^◌, ◌<◌, ◌≤◌, Bool, true, false, cond, List, [], ◌∷◌, ◌++◌, length, get_or, take, drop, set, decimal, sym, refl, ap, ◌∙◌, subst, append_assoc, append-nil, mod-lt, mod-eq_of_lt, mul_comm, div-lt_iff_lt-mul, pow-suc, le-div_iff_mul-le, div-le_self, div-one, arith, length-set}
 use native.Mathlib.Nat.{pow-zero, div-div-eq-div-mul, mod-mod, div-eq_of_lt}
 use lib.Arith.{mod-mul, digits_div, digits_mod}
 use Rattle.std.proofs.lemmas.Fmt.{decimal_digit, decimal_step}
@@ -162,3 +163,26 @@ appended ok was now more digits e same = e ∙ ap (λ xs. cond ok (was ++ xs) wa
 pub longer_by : (ok : Bool) (was more now : ℕ) → now ≡ cond ok (was + more) was → more ≤ 11 → now ≤ was + 11
 longer_by true was more now e few = omega arith
 longer_by false was more now e few = omega arith
+
+-- the place values, highest first
+abbrev pub places : List ℕ
+places = 10000000000 ∷ 1000000000 ∷ 100000000 ∷ 10000000 ∷ 1000000 ∷ 100000 ∷ 10000 ∷ 1000 ∷ 100 ∷ 10 ∷ 1 ∷ []
+
+place_at : (i : ℕ) → i < 11 → get_or places i 0 ≡ 10 ^ (10 - i)
+place_at i few = search rules
+
+-- the first place value that a number reaches tells its leading zeros
+pub skips_from : (n : ℕ) (r : Option ℕ) (z : ℕ)
+    → MatchOption r (AllWithin (λ y. n < y) places 0 11) (λ i. (i < 11) × HoldsAt (λ y. y ≤ n) places i × AllWithin (λ y. n < y) places 0 i)
+    → z ≡ unwrap_or r 10 → n < 100000000000 → Skips n z
+skips_from n None z found e few =
+    let last : n < 1 = found 10 0 (omega arith) (omega arith) in
+    subst (Skips n) (sym e) (omega arith, omega (arith, last), λ h. absurd (omega (arith, h)))
+skips_from n (Some zero) z found e few =
+    let reached = subst (λ v. v ≤ n) (place_at 0 (omega arith)) (found.1 0) in
+    subst (Skips n) (sym e) (omega arith, few, λ _. reached)
+skips_from n (Some (suc i)) z found e few =
+    let reached = subst (λ v. v ≤ n) (place_at (suc i) found.0) (found.1 0) in
+    let above = subst (λ v. n < v) (place_at i (omega (arith, found.0))) (found.2 i 0 (omega arith) (omega arith)) in
+    let same : 10 - i ≡ 11 - suc i = omega arith in
+    subst (Skips n) (sym e) (omega (arith, found.0), subst (λ m. n < 10 ^ m) same above, λ _. reached)

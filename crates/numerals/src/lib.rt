@@ -10,7 +10,7 @@ use std::alloc::AllocError;
 const DIGITS: usize = 11;
 
 // The place values of the digits, highest first.
-const PLACES: [u64; 11] = [
+const PLACES: [u64; DIGITS] = [
     10_000_000_000,
     1_000_000_000,
     100_000_000,
@@ -45,12 +45,13 @@ fn digit(rest: u64, value: u64) -> u8
 }
 
 // Writes the eleven digits over zeros, so that only the digits that are not 0 are computed. The places are gone through from the highest on, small number or not: so each divisor is known when this is compiled.
-fn write_digits(digits: &mut [u8; 11], number: u64)
+fn write_digits(digits: &mut [u8; DIGITS], number: u64)
     requires zeros { digits.old ≡ replicate 11 48 }
     requires few { number < 100000000000 }
     ensures { digits.new ≡ lowest_digits 11 number }
 {
     let mut rest = number;
+    // By index: `digits.iter_mut().zip(&PLACES)` costs the same, and leaves an invariant open that would speak of digits still lent to the loop.
     for place in 0..DIGITS {
         let value = place_value(place);
         if value <= rest {
@@ -60,17 +61,13 @@ fn write_digits(digits: &mut [u8; 11], number: u64)
     }
 }
 
-// How many of the eleven digits are leading zeros; the last digit is none. Most numbers are small, so the last places come first.
+// How many of the eleven digits are leading zeros; the last digit is none.
 fn leading_zeros(number: u64) -> usize
     requires { number < 100000000000 }
     ensures { Skips number result }
 {
-    for place in (1..DIGITS).rev() {
-        if number < place_value(place - 1) {
-            return place;
-        }
-    }
-    0
+    let first = PLACES.iter().position(|value| *value <= number);
+    first.unwrap_or(DIGITS - 1)
 }
 
 // Appends a number of at most eleven digits.

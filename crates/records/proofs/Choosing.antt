@@ -1,12 +1,11 @@
 -- The answer of a record by its word.
-use Rattle.std.proofs.Common.{◌≡◌, ℕ, Bool, true, false, cond, List, ◌∷◌, Some, None, Option, Result, refl, ap, ◌∙◌}
+use Rattle.std.proofs.Common.{◌≡◌, ℕ, Bool, true, false, cond, List, Some, None, Err, Option, Result, sym, refl, ap, ◌∙◌, subst}
 use Rattle.std.proofs.lemmas.Bool.{true≢false, false≢true}
 use Rattle.faults.specs.declared.Fault.{Fault}
+use Rattle.text.specs.declared.field.Placed.{Placed}
 use Rattle.requirement.specs.declared.rows.RequirementRow.{RequirementRow}
-use Rattle.records.specs.Tests.{letter_of}
-use Rattle.records.specs.Columns.{anything}
-use Rattle.records.specs.Cells.{Cell, contents, nth_content, left_to_right, outcome}
-use Rattle.records.specs.Entries.{is_requirement, is_item, requirement_columns, item_columns, requirement_of, ItemMeaning, item_of, a_requirement, an_item, malformed, answer_of, answer_meant}
+use Rattle.records.specs.Cells.{cells, contents, outcome}
+use Rattle.records.specs.Entries.{is_requirement, is_item, requirement_fault, item_fault, requirement_of, ItemMeaning, item_of, a_requirement, an_item, malformed, answer_of, answer_meant}
 
 meant_outcome : {S T : Type 0} (f : S → T) (o : Option Fault) (v : S) → answer_meant f (outcome o v) ≡ outcome o (f v)
 meant_outcome f None v = refl
@@ -22,24 +21,26 @@ module _ {T : Type 0} (r : Result T Fault) (o p q : Option Fault) (v w : T) wher
   second_choice false true h k e = e
   second_choice false false h k e = absurd (true≢false k)
 
-module _ (n : ℕ) (cs : List Cell) where
-  abbrev of_requirement : Option Fault
-  of_requirement = left_to_right (anything ∷ requirement_columns) cs
-
-  abbrev of_item : Option Fault
-  of_item = left_to_right (anything ∷ item_columns (letter_of (nth_content 6 (contents cs)))) cs
-
+module _ (n : ℕ) (ps qs : List Placed) where
   abbrev ws : List (List ℕ)
-  ws = contents cs
+  ws = contents (cells ps)
 
-  pub by_requirement : true ≡ is_requirement ws → (r : Result RequirementRow Fault) → r ≡ outcome of_requirement (requirement_of ws)
-      → answer_meant a_requirement r ≡ answer_of n cs
-  by_requirement h r e =
-      first_choice (answer_meant a_requirement r) of_requirement of_item (Some (malformed n)) (a_requirement (requirement_of ws)) (an_item (item_of ws))
-      (is_requirement ws) (is_item ws) h (ap (answer_meant a_requirement) e ∙ meant_outcome a_requirement of_requirement (requirement_of ws))
+  pub by_requirement : true ≡ is_requirement ws → qs ≡ ps → (r : Result RequirementRow Fault)
+      → r ≡ outcome (requirement_fault (cells qs)) (requirement_of (contents (cells qs))) → answer_meant a_requirement r ≡ answer_of n (cells ps)
+  by_requirement h same r e =
+      let o = requirement_fault (cells ps) in
+      let m = subst (λ l. r ≡ outcome (requirement_fault (cells l)) (requirement_of (contents (cells l)))) same e in
+      first_choice (answer_meant a_requirement r) o (item_fault (cells ps)) (Some (malformed n)) (a_requirement (requirement_of ws)) (an_item (item_of ws))
+      (is_requirement ws) (is_item ws) h (ap (answer_meant a_requirement) m ∙ meant_outcome a_requirement o (requirement_of ws))
 
-  pub by_item : false ≡ is_requirement ws → true ≡ is_item ws → (r : Result ItemMeaning Fault) → r ≡ outcome of_item (item_of ws)
-      → answer_meant an_item r ≡ answer_of n cs
-  by_item h k r e =
-      second_choice (answer_meant an_item r) of_requirement of_item (Some (malformed n)) (a_requirement (requirement_of ws)) (an_item (item_of ws))
-      (is_requirement ws) (is_item ws) h k (ap (answer_meant an_item) e ∙ meant_outcome an_item of_item (item_of ws))
+  pub by_item : false ≡ is_requirement ws → true ≡ is_item ws → qs ≡ ps → (r : Result ItemMeaning Fault)
+      → r ≡ outcome (item_fault (cells qs)) (item_of (contents (cells qs))) → answer_meant an_item r ≡ answer_of n (cells ps)
+  by_item h k same r e =
+      let o = item_fault (cells ps) in
+      let m = subst (λ l. r ≡ outcome (item_fault (cells l)) (item_of (contents (cells l)))) same e in
+      second_choice (answer_meant an_item r) (requirement_fault (cells ps)) o (Some (malformed n)) (a_requirement (requirement_of ws)) (an_item (item_of ws))
+      (is_requirement ws) (is_item ws) h k (ap (answer_meant an_item) m ∙ meant_outcome an_item o (item_of ws))
+
+pub by_neither : (n : ℕ) (ps : List Placed) → false ≡ is_requirement (contents (cells ps)) → false ≡ is_item (contents (cells ps))
+    → Err (malformed n) ≡ answer_of n (cells ps)
+by_neither n ps h k = rw (sym h, sym k) refl

@@ -1,7 +1,7 @@
 mod Numerals
 pub mod Steps
 mod Walk
-mod Alike
+mod Whole
 mod Spreads
 mod Heads
 mod Choosing

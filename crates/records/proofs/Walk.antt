@@ -1,75 +1,51 @@
 -- The columns of a record from left to right.
-use Rattle.std.proofs.Common.{◌≡◌, ℕ, ◌+◌, ◌<◌, List, [], ◌∷◌, length, get_or, drop, Ok, Err, sym, refl, ap, ◌∙◌, arith}
-use lib.ListN.{length-map}
-use Rattle.std.proofs.lemmas.List.{drop_more, get_or-map}
+use Rattle.std.proofs.Common.{◌≡◌, ℕ, zero, suc, List, [], ◌∷◌, length, get_or, Ok, Err, Result, sym, refl, ap, ◌∙◌, arith}
 use Rattle.faults.specs.declared.Fault.{Fault}
 use Rattle.text.specs.declared.field.Field.TheVariants.{Bare}
 use Rattle.text.specs.declared.field.Placed.{Placed}
-use Rattle.records.specs.Columns.{Column, anything}
-use Rattle.records.specs.Cells.{Cell, cell, cells, contents, first_fault, left_to_right, outcome, column_answer, fault_in}
+use Rattle.fields.specs.Answers.{said}
+use Rattle.records.specs.Columns.{Column}
+use Rattle.records.specs.Cells.{cell, cells, first_fault, left_to_right, outcome, column_answer, fault_in}
 use Rattle.records.proofs.Steps.{its_value, no_fault, its_fault}
 
 -- what an access past the end of a list would read
 abbrev pub blank : Placed
 blank = record { content = Bare (record { ref_ptr = (0, 0); now = [] }); «record» = 0; field = 0 }
 
-abbrev pub cell_at : List Placed → ℕ → Cell
-cell_at ps i = cell (get_or ps i blank)
+-- n fields by their places
+abbrev pub listed : ℕ → (ℕ → Placed) → List Placed
+listed zero at = []
+listed (suc n) at = at 0 ∷ listed n (λ i. at (suc i))
 
--- the i-th field, counted from 0, says x under the column k
-abbrev pub Says : {T : Type 0} → List Placed → ℕ → Column → (List ℕ → T) → T → Type 0
-Says ps i k value x = Ok x ≡ column_answer (cell_at ps i) k value
+pub all_listed : (n : ℕ) (ps : List Placed) → length ps ≡ n → ps ≡ listed n (λ i. get_or ps i blank)
+all_listed zero [] e = refl
+all_listed zero (p ∷ ps) e = absurd (omega (arith, e))
+all_listed (suc n) [] e = absurd (omega (arith, e))
+all_listed (suc n) (p ∷ ps) e = ap (λ l. p ∷ l) (all_listed n ps (omega (arith, e)))
 
--- it is refused with f
-abbrev pub Refused : {T : Type 0} → List Placed → ℕ → Column → (List ℕ → T) → Fault → Type 0
-Refused ps i k value f = Err f ≡ column_answer (cell_at ps i) k value
+-- the columns over the fields answer r, where w is meant
+pub record Answered {U : Type 0} (ks : List Column) (ps : List Placed) (r : Result U Fault) (w : U) : Type 0 where
+  pub answer : r ≡ outcome (left_to_right ks (cells ps)) w
 
--- the columns before the i-th refuse nothing: the columns ks over the fields from the i-th on decide
-pub record Past (ps : List Placed) (all : List Column) (i : ℕ) (ks : List Column) : Type 0 where
-  pub same : left_to_right all (cells ps) ≡ left_to_right ks (cells (drop i ps))
+module _ {U : Type 0} {ks : List Column} {ps : List Placed} {k : Column} {p : Placed} where
+  -- the first field says x
+  pub walk_on : {T : Type 0} {r : Result U Fault} {w : U} (value : List ℕ → T) (x : T) → Ok x ≡ column_answer (cell p) k value
+      → Answered ks ps r w → Answered (k ∷ ks) (p ∷ ps) r w
+  walk_on {w = w} value x h later =
+      let c = cell p in
+      record { answer = later.answer ∙ sym (ap (λ o. outcome (first_fault o (left_to_right ks (cells ps))) w) (no_fault (fault_in c (k c.words)) (value c.words) x h)) }
 
-front : (ps : List Placed) (i : ℕ) → i < length ps → (k : Column) (ks : List Column)
-    → left_to_right (k ∷ ks) (cells (drop i ps)) ≡ first_fault (fault_in (cell_at ps i) (k (cell_at ps i).words)) (left_to_right ks (cells (drop (i + 1) ps)))
-front ps i lt k ks = ap (λ l. left_to_right (k ∷ ks) (cells l)) (drop_more ps i blank lt)
-
--- after the first field, whose word is looked at elsewhere
-pub set_out : (ps : List Placed) (ks : List Column) → 0 < length ps → Past ps (anything ∷ ks) 1 ks
-set_out [] ks lt = absurd (omega arith)
-set_out (p ∷ ps) ks lt = record { same = refl }
-
-module _ {ps : List Placed} {all ks : List Column} {i : ℕ} {k : Column} (so : Past ps all i (k ∷ ks)) (lt : i < length ps) where
-  -- the column refuses nothing
-  pub walk_on : {T : Type 0} (value : List ℕ → T) (x : T) → Says ps i k value x → Past ps all (i + 1) ks
-  walk_on value x h =
-      let p = cell_at ps i in
-      record {
-        same =
-            so.same ∙ front ps i lt k ks
-            ∙ ap (λ o. first_fault o (left_to_right ks (cells (drop (i + 1) ps)))) (no_fault (fault_in p (k p.words)) (value p.words) x h);
-      }
-
-  -- the column refuses
-  pub walk_off : {T U : Type 0} (value : List ℕ → T) (f : Fault) (w : U) → Refused ps i k value f → Err f ≡ outcome (left_to_right all (cells ps)) w
-  walk_off value f w h =
-      let p = cell_at ps i in
-      sym
-      (ap (λ o. outcome o w)
-      (so.same ∙ front ps i lt k ks
-      ∙ ap (λ o. first_fault o (left_to_right ks (cells (drop (i + 1) ps)))) (its_fault (fault_in p (k p.words)) (value p.words) f h)))
+  -- the first field is refused
+  pub walk_off : {T : Type 0} {w : U} (value : List ℕ → T) (f : Fault) → Err f ≡ column_answer (cell p) k value → Answered (k ∷ ks) (p ∷ ps) (Err f) w
+  walk_off {w = w} value f h =
+      let c = cell p in
+      record { answer = sym (ap (λ o. outcome (first_fault o (left_to_right ks (cells ps))) w) (its_fault (fault_in c (k c.words)) (value c.words) f h)) }
 
 -- no column is left
-pub arrive : {U : Type 0} {ps : List Placed} {all : List Column} {i : ℕ} → Past ps all i [] → (x w : U) → x ≡ w
-    → Ok x ≡ outcome (left_to_right all (cells ps)) w
-arrive so x w e = ap Ok e ∙ sym (ap (λ o. outcome o w) so.same)
+pub arrive : {U : Type 0} {ps : List Placed} {x w : U} → x ≡ w → Answered [] ps (Ok x) w
+arrive e = record { answer = ap Ok e }
 
--- what the fields say, by their places
-said_at : (ps : List Placed) (i : ℕ) → i < length ps → get_or (contents (cells ps)) i [] ≡ (cell_at ps i).words
-said_at ps i lt =
-    get_or-map (λ c. c.words) (cells ps) i (cell blank) [] (omega (arith, length-map ps cell)) ∙ ap (λ c. c.words) (get_or-map cell ps i blank (cell blank) lt)
-
--- a value that was answered is said by the content at its place
-pub value_at : {T : Type 0} (ps : List Placed) (i : ℕ) → i < length ps → (k : Column) (value : List ℕ → T) (x : T)
-    → Says ps i k value x → x ≡ value (get_or (contents (cells ps)) i [])
-value_at ps i lt k value x h =
-    let p = cell_at ps i in
-    its_value (fault_in p (k p.words)) (value p.words) x h ∙ ap value (sym (said_at ps i lt))
+-- a value that was answered is the one that is meant
+pub meant : {T : Type 0} (ps : List Placed) (i : ℕ) (k : Column) (value : List ℕ → T) (x : T) → Ok x ≡ column_answer (cell (get_or ps i blank)) k value
+    → x ≡ value (said (get_or ps i blank))
+meant ps i k value x h = let c = cell (get_or ps i blank) in its_value (fault_in c (k c.words)) (value c.words) x h

@@ -1,11 +1,11 @@
 -- What one turn does, by what the reader hands out and what the record does.
-use Rattle.std.proofs.Common.{◌≡◌, ℕ, ◌+◌, min, List, [], ◌∷◌, ◌++◌, map, length, take, drop, Some, None, Result, sym, refl, ap, ◌∙◌, subst, arith}
+use Rattle.std.proofs.Common.{◌≡◌, ℕ, ◌+◌, min, List, [], ◌∷◌, ◌++◌, map, length, take, Some, None, Result, sym, refl, ap, ◌∙◌, subst, arith}
 use Rattle.std.specs.List.{flat_map}
-use Rattle.std.proofs.lemmas.List.{append-nil, length-append, length-take, length-drop}
+use Rattle.std.proofs.lemmas.List.{append-nil}
 use Rattle.faults.specs.declared.Fault.{Fault}
 use Rattle.fields.specs.Answers.{said}
 use Rattle.text.specs.Content.{saying}
-use Rattle.text.specs.Fronts.{forms, laid}
+use Rattle.text.specs.Fronts.{forms}
 use Rattle.text.specs.Reading.{left, handed, Hands, Refuses, too_long, broken}
 use Rattle.text.specs.declared.field.Placed.{Placed}
 use Rattle.text.specs.declared.reader.Reader.{Reader}
@@ -48,10 +48,6 @@ text_refused r s sheet lot old new f refuses is holds =
 said_forms : (ps : List Placed) → map said ps ≡ map saying (forms ps)
 said_forms [] = refl
 said_forms (p ∷ ps) = ap (λ ws. said p ∷ ws) (said_forms ps)
-
--- the list keeps its length
-pub laid_length : (ps old : List Placed) → length (laid ps old) ≡ length old
-laid_length ps old = omega (arith, length-append (take (length old) ps) (drop (length ps) old), length-take (length old) ps, length-drop (length ps) old)
 
 -- a record was handed out and taken in
 module _ (r r' : Reader) (old new : List Placed) (rec : Record) (ten : length old ≡ 10) (hands : Hands r r' old new rec) where

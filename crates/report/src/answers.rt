@@ -12,9 +12,6 @@ use lot::Row;
 use lot_calls::Lot;
 use std::alloc::AllocError;
 
-// The classes, ascending.
-const CLASSES: [u8; 9] = [1, 2, 3, 4, 5, 6, 7, 8, 9];
-
 // The line of a record that was not refused: a requirement has none.
 fn taken_line(taken: Taken) -> Option<Line>
     ensures { result ≡ line_for (Ok taken) }
@@ -35,7 +32,7 @@ pub(crate) fn line_for(answer: Result<Taken, Fault>) -> Option<Line>
     }
 }
 
-// Appends a line, if there is one.
+// Appends a line, if there is one. A match, since each arm is the answer, which `map_or(Ok(()), ..)` would say no more plainly.
 pub(crate) fn push_if(line: Option<Line>, out: &mut Vec<u8>) -> Result<(), AllocError>
     ensures { OnOk result (out.new.items ≡ out.old.items ++ flat_map spelled (listed line)) }
 {
@@ -56,11 +53,11 @@ fn class_line(lot: &Lot<'_>, class: u8) -> Option<Line>
     }
 }
 
-// Appends the lines of the classes that have an entry.
+// Appends the lines of the classes that have an entry, the lowest class first.
 pub(crate) fn push_classes(lot: &Lot<'_>, out: &mut Vec<u8>) -> Result<(), AllocError>
     ensures { OnOk result (out.new.items ≡ out.old.items ++ flat_map spelled (class_lines (items lot.now))) }
 {
-    for class in CLASSES {
+    for class in 1..=9 {
         push_if(class_line(lot, class), out)?;
     }
     Ok(())

@@ -1,5 +1,5 @@
 // Reading a text record by record, with what each record does and the line it gives.
-ghost use Rattle.std.specs.Prelude.{◌≡◌, length, IfOk, OnOk};
+ghost use Rattle.std.specs.Prelude.{IfOk, OnOk};
 ghost use Rattle.report.specs.Turns.{Turn, ReadsThrough};
 
 use crate::answers::{line_for, push_if};
@@ -16,31 +16,25 @@ const FIELDS: usize = 10;
 // Reads the next record, takes it in and writes its line; answers whether there was one. A refusal of the text ends the reading.
 fn turn<'t>(
     reader: &mut Reader<'t>,
-    fields: &mut [Placed<'t>],
+    fields: &mut [Placed<'t>; FIELDS],
     sheet: &mut Sheet<'_>,
     lot: &mut Lot<'_>,
     out: &mut Vec<u8>,
 ) -> Result<bool, AllocError>
-    requires { length fields.old ≡ 10 }
-    ensures fields { length fields.new ≡ 10 }
-    ensures turn { IfOk result (Turn reader.old reader.new sheet.old lot.old sheet.new lot.new out.old.items out.new.items) }
+    ensures { IfOk result (Turn reader.old reader.new sheet.old lot.old sheet.new lot.new out.old.items out.new.items) }
 {
-    let next = match reader.next_record(fields) {
-        Ok(next) => next,
+    let record = match reader.next_record(fields) {
+        Ok(Some(record)) => record,
+        Ok(None) => return Ok(false),
         Err(fault) => {
             Line::Refused(fault).push(out)?;
             return Ok(false);
         }
     };
-    match next {
-        Some(record) => {
-            let count = (record.count as usize).min(FIELDS);
-            let answer = take_in(record.number, &fields[..count], sheet, lot);
-            push_if(line_for(answer), out)?;
-            Ok(true)
-        }
-        None => Ok(false),
-    }
+    let count = (record.count as usize).min(FIELDS);
+    let answer = take_in(record.number, &fields[..count], sheet, lot);
+    push_if(line_for(answer), out)?;
+    Ok(true)
 }
 
 // Reads a text to its end or its first offence.

@@ -34,9 +34,7 @@ fn multiple_width(hundredths: i64, expanded: i64) -> i64
 pub fn guard_width(requirement: &Requirement, expanded: i64) -> Result<GuardBand, Fault>
     ensures { AnswersBy (width_refusal expanded) result (λ band. band.width ≡ width_of requirement.now.rule expanded) }
 {
-    if !is_expanded(expanded) {
-        return Err(Fault::direct(Refusal::OutOfRange));
-    }
+    Refusal::OutOfRange.unless(is_expanded(expanded))?;
     let width = match requirement.rule() {
         Rule::Simple | Rule::Shares(_, _) => 0,
         Rule::Guard(width) => width,
@@ -53,7 +51,7 @@ impl GuardBand {
     }
 
     // The tolerance limits moved inwards by the width.
-    pub fn narrowed(self, tolerance: &Tolerance) -> Acceptance
+    pub(crate) fn narrowed(self, tolerance: &Tolerance) -> Acceptance
         ensures { result ≡ guarded tolerance.now.lower tolerance.now.upper self.width }
     {
         Acceptance {

@@ -1,6 +1,6 @@
 use Rattle.std.proofs.Common.{◌≡◌, ◌+◌, ◌-◌, ◌/◌, true, sym, subst, arith}
 use Rattle.expanded.specs.Expanded.{reaches}
-use Rattle.expanded.proofs.Firsts.{failed_before, found, least_over}
+use Rattle.expanded.proofs.Firsts.{failed_before, least_over}
 use Rattle.expanded.proofs.first_reaching.Goals as goal
 
 pub loop-low-preserved : goal.loop-low-preserved
@@ -18,5 +18,4 @@ returns c =
     let low = c.loop-low.low in
     let inv = c.loop-low.invariant in
     let met : low ≡ c.loop-low.high = omega arith in
-    let passes : reaches s low ≡ true = subst (λ n. reaches s n ≡ true) (sym met) inv.2 in
-    record { first = found s low (omega arith) passes inv.3; least = least_over s low passes inv.3; within = omega arith }
+    least_over s low (subst (λ n. reaches s n ≡ true) (sym met) inv.2) inv.3

@@ -1,31 +1,62 @@
+use Rattle.std.proofs.Common.{◌≡◌, false, Ok, Err, sym, ◌∙◌, arith, rules}
 use Rattle.std.proofs.lemmas.Result.{err_from_is_err_and}
-use Rattle.std.proofs.Common.{Ok, Err}
-use Rattle.records.specs.Cells.{cells}
-use Rattle.records.specs.Entries.{word_REQ, word_ITEM, item_meant}
-use Rattle.records.proofs.Heads.{has_count}
-use Rattle.records.proofs.Choosing.{by_requirement, by_item}
+use Rattle.records.specs.Cells.{cells, contents}
+use Rattle.records.specs.Entries.{word_REQ, word_ITEM, is_requirement, is_item, item_meant}
+use Rattle.records.proofs.Heads.{word_decides, not_so_many}
+use Rattle.records.proofs.Choosing.{by_requirement, by_item, by_neither}
 use Rattle.records.proofs.makers.entry.Goals as goal
-
-pub requirement-requires : goal.requirement-requires
-requirement-requires c = has_count c.args.fields.now word_REQ 9 c.if-is_record.ensures
+use Rattle.records.proofs.makers.entry.Goals.{in_default-via-in-None-1, in_default-via-in-Some+else-says, in_default-2-via-in-None-1, in_default-2-via-in-Some-as_array+else-says-2}
 
 pub returns-in_err-requirement : goal.returns-in_err-requirement
 returns-in_err-requirement c =
     let p = err_from_is_err_and c.from_residual.result c.from_residual.ensures.1 in
-    rw (p.1, p.2) (by_requirement c.args.number (cells c.args.fields.now) c.if-is_record.ensures (Err c.in_err-requirement.field-0.0) c.in_err-requirement.ensures)
+    let whole = c.in-Some.ensures.cases in
+    let h = word_decides _ _ word_REQ 9 _ (omega arith) whole c.if-says.ensures in
+    rw (p.1, p.2) (by_requirement c.args.number _ _ h whole.same (Err c.in_err-requirement.field-0.0) c.in_err-requirement.ensures)
 
-pub returns-then-is_record : goal.returns-then-is_record
-returns-then-is_record c =
-    by_requirement c.args.number (cells c.args.fields.now) c.if-is_record.ensures (Ok c.in_ok-requirement.field-0) c.in_ok-requirement.ensures
-
-pub item-requires : goal.item-requires
-item-requires c = has_count c.args.fields.now word_ITEM 8 c.if-is_record-2.ensures
+pub returns : goal.returns
+returns c =
+    let whole = c.in-Some.ensures.cases in
+    let h = word_decides _ _ word_REQ 9 _ (omega arith) whole c.if-says.ensures in
+    by_requirement c.args.number _ _ h whole.same (Ok c.in_ok-requirement.field-0) c.in_ok-requirement.ensures
 
 pub returns-in_err-item : goal.returns-in_err-item
 returns-in_err-item c =
     let p = err_from_is_err_and c.from_residual-in_err-item.result c.from_residual-in_err-item.ensures.1 in
-    rw (p.1, p.2) (by_item c.args.number (cells c.args.fields.now) c.if-is_record.ensures c.if-is_record-2.ensures (Err c.in_err-item.field-0.0) c.in_err-item.ensures)
+    let none : false ≡ is_requirement (contents (cells c.args.fields.now)) =
+    elim c.in_default.branch [
+      | in_default-via-in-None-1 w ↦ not_so_many c.args.fields.now word_REQ 9 (search rules)
+      | in_default-via-in-Some+else-says w ↦ sym w.if-says.false ∙ word_decides _ _ word_REQ 9 _ (omega arith) w.in-Some.ensures.cases w.says.ensures
+    ]
+    in
+    let whole = c.in-Some-as_array.ensures.cases in
+    let h = word_decides _ _ word_ITEM 8 _ (omega arith) whole c.if-says-2.ensures in
+    rw (p.1, p.2) (by_item c.args.number _ _ none h whole.same (Err c.in_err-item.field-0.0) c.in_err-item.ensures)
 
-pub returns-then-is_record-2 : goal.returns-then-is_record-2
-returns-then-is_record-2 c =
-    by_item c.args.number (cells c.args.fields.now) c.if-is_record.ensures c.if-is_record-2.ensures (Ok (item_meant c.in_ok-item.field-0)) c.in_ok-item.ensures
+pub returns-2 : goal.returns-2
+returns-2 c =
+    let none : false ≡ is_requirement (contents (cells c.args.fields.now)) =
+    elim c.in_default.branch [
+      | in_default-via-in-None-1 w ↦ not_so_many c.args.fields.now word_REQ 9 (search rules)
+      | in_default-via-in-Some+else-says w ↦ sym w.if-says.false ∙ word_decides _ _ word_REQ 9 _ (omega arith) w.in-Some.ensures.cases w.says.ensures
+    ]
+    in
+    let whole = c.in-Some-as_array.ensures.cases in
+    let h = word_decides _ _ word_ITEM 8 _ (omega arith) whole c.if-says-2.ensures in
+    by_item c.args.number _ _ none h whole.same (Ok (item_meant c.in_ok-item.field-0)) c.in_ok-item.ensures
+
+pub returns-3 : goal.returns-3
+returns-3 c =
+    let none : false ≡ is_requirement (contents (cells c.args.fields.now)) =
+    elim c.in_default.branch [
+      | in_default-via-in-None-1 w ↦ not_so_many c.args.fields.now word_REQ 9 (search rules)
+      | in_default-via-in-Some+else-says w ↦ sym w.if-says.false ∙ word_decides _ _ word_REQ 9 _ (omega arith) w.in-Some.ensures.cases w.says.ensures
+    ]
+    in
+    let neither : false ≡ is_item (contents (cells c.args.fields.now)) =
+    elim c.in_default-2.branch [
+      | in_default-2-via-in-None-1 w ↦ not_so_many c.args.fields.now word_ITEM 8 (search rules)
+      | in_default-2-via-in-Some-as_array+else-says-2 w ↦ sym w.if-says-2.false ∙ word_decides _ _ word_ITEM 8 _ (omega arith) w.in-Some-as_array.ensures.cases w.says-2.ensures
+    ]
+    in
+    by_neither c.args.number c.args.fields.now none neither

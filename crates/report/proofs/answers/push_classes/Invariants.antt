@@ -1,4 +1,4 @@
-use Rattle.std.proofs.Common.{◌≡◌, ◌++◌, take, vec_items}
+use Rattle.std.proofs.Common.{◌≡◌, ◌-◌, ◌++◌, take, vec_items}
 use Rattle.std.specs.List.{flat_map}
 use Rattle.lot_calls.specs.Lots.{items}
 use Rattle.report.specs.Output.{classes}
@@ -7,4 +7,4 @@ use Rattle.report.proofs.answers.push_classes.Given as goal
 
 -- the lines of the classes so far
 abbrev pub invariant-loop-class : goal.invariant-loop-class
-invariant-loop-class l = vec_items l.out ≡ vec_items l.initial.out ++ flat_map (class_bytes (items l.lot)) (take l.class-index classes)
+invariant-loop-class l = vec_items l.out ≡ vec_items l.initial.out ++ flat_map (class_bytes (items l.lot)) (take (l.class - 1) classes)
