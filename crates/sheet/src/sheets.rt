@@ -15,7 +15,7 @@ pub struct Sheet<'a> {
     table: Table<'a, Requirement>,
 }
 
-// The sheet's refusal for the table's.
+// The sheet's refusal for the table's: no From, since both types are of other crates.
 fn refusal_of(refused: Refused) -> Refusal
     ensures { result ≡ refusal_of refused }
 {
@@ -42,10 +42,10 @@ impl<'a> Sheet<'a> {
         ensures same { self.new.table.places.ghost_name ≡ self.old.table.places.ghost_name }
         ensures outcome { Added self.old.table requirement result self.new.table }
     {
-        match self.table.insert(requirement) {
-            Ok(_) => Ok(()),
-            Err(refused) => Err(Fault::direct(refusal_of(refused))),
-        }
+        self.table
+            .insert(requirement)
+            .map(|_| ())
+            .map_err(|refused| Fault::direct(refusal_of(refused)))
     }
 
     // The requirement of a class and a characteristic, if the sheet has one.
