@@ -1,4 +1,5 @@
-// What a record does: a requirement goes to the sheet, an item to the lot.
+// What a record does: a requirement goes to the sheet, an item to the lot. A clause `same` says that the lists are still the caller's, a fact of before
+// and after together, which no field can hold.
 #![tactic(auto)]
 
 ghost use Rattle.std.specs.Prelude.{◌≡◌};
@@ -27,7 +28,7 @@ pub enum Taken {
     Judged(u32, Judgement),
 }
 
-// The field that a refusal of the engine concerns.
+// The field that a refusal of the engine concerns. A number and no Option: 0 is what the output writes where there is none.
 fn field_of(refusal: Refusal) -> u32
     ensures { result ≡ field_of refusal }
 {

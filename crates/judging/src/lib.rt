@@ -68,7 +68,8 @@ pub fn bracket<K: Knowledge>(
     Ok(bounds(&requirement.tolerance(), reading, knowledge))
 }
 
-// The verdict on a reading, and the bracket on its conformity probability.
+// The verdict on a reading, and the bracket on its conformity probability. Its parameters stay apart: the sheet, the measurement and the instrument each
+// give theirs, and `limits` and `bracket` ask for some of them alone.
 pub fn judge<K: Knowledge>(
     requirement: &Requirement,
     expanded: i64,

@@ -44,6 +44,7 @@ fn digit(rest: u64, value: u64) -> u8
     b'0' + (rest / value) as u8
 }
 
+// No type keeps that a number has at most eleven digits: its makers would be asked for the same.
 // Writes the eleven digits over zeros, so that only the digits that are not 0 are computed. The places are gone through from the highest on, small number or not: so each divisor is known when this is compiled.
 fn write_digits(digits: &mut [u8; DIGITS], number: u64)
     requires zeros { digits.old ≡ replicate 11 48 }

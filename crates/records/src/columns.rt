@@ -1,4 +1,4 @@
-// The columns of the records: a field to its value, or the fault of the field.
+// The columns of the records: a field to its value, or the fault of the field. The three `said_` functions are those of `fields`, told by columns.
 ghost use Rattle.std.specs.Prelude.{◌≡◌, cond, Ok, Err};
 ghost use Rattle.faults.specs.Ranges.{from_to};
 ghost use Rattle.fields.specs.Values.{number_of};

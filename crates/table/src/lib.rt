@@ -28,7 +28,7 @@ pub enum Refused {
     Full,
 }
 
-// Entries in the order of their keys, no two with one key, in the first places of the caller's list.
+// Entries in the order of their keys, no two with one key, in the first places of the caller's list. Nothing is allocated, so their count stands beside it.
 #[derive(Drop)]
 pub struct Table<'a, E: Entry> {
     places: &'a mut [E],

@@ -9,6 +9,7 @@ use crate::{Entry, Refused, Table};
 
 impl<'a, E: Entry> Table<'a, E> {
     // An empty table over the list, with room for at most `limit` entries: with a limit of 0 it has no place.
+    // What the caller's list held is a fact of the making, which no field can keep; so each maker over a list says it.
     pub fn new(places: &'a mut [E], limit: usize) -> Self
         ensures list { result.places.now ≡ places.old }
         ensures same { result.places.ghost_name ≡ places.entry.ghost_name }
