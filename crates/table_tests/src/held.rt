@@ -32,8 +32,8 @@ impl<'a> Held<'a> {
         ensures outcome { Allowed (λ e. e.number) self.old.table reading.number result }
     {
         let entered = self.table.insert(reading);
-        if entered.is_ok() && self.entered < u32::MAX {
-            self.entered += 1;
+        if entered.is_ok() {
+            self.entered = self.entered.saturating_add(1);
         }
         entered
     }
