@@ -1,13 +1,7 @@
 // The table at the items of a lot, by number.
-use crate::script::{Shown, fill_empty_refill};
+use crate::script::fill_empty_refill;
 use judging::{Bracket, Judgement, Verdict};
 use lot::Item;
-
-impl Shown for Item {
-    fn shown(&self) -> (u32, i64) {
-        (self.number, self.reading)
-    }
-}
 
 fn item(number: u32, reading: i64) -> Item {
     Item {

@@ -1,15 +1,8 @@
 // The table at the requirements, by class and characteristic.
-use crate::script::{Shown, fill_empty_refill};
+use crate::script::fill_empty_refill;
 use faults::Fault;
 use requirement::{Requirement, RequirementRow};
 use std::test::Fail;
-
-impl Shown for Requirement {
-    fn shown(&self) -> (u32, i64) {
-        let key = 100 * u32::from(self.class()) + u32::from(self.characteristic());
-        (key, self.tolerance().lower().unwrap_or(0))
-    }
-}
 
 // Simple acceptance from this limit on.
 pub fn requirement(class: i64, characteristic: i64, lower: i64) -> Result<Requirement, Fault> {

@@ -1,109 +1,111 @@
 // Calls on a table of five places, with the answers that are due.
+use std::fmt::Debug;
 use std::process::Abort;
 use table::{Entry, Refused, Table};
 
-// What tells one entry from another: its key as a number, and a value that it carries.
-pub trait Shown: Entry {
-    fn shown(&self) -> (u32, i64);
+// A table under trial, with what a trial fails by.
+#[derive(Drop)]
+struct Trial<'r, 't, R, X: Entry> {
+    rt: &'r R,
+    table: Table<'t, X>,
 }
 
-fn told<X: Shown>(entry: Option<X>) -> Option<(u32, i64)> {
-    entry.map(|entry| entry.shown())
-}
-
-// Looking each of the entries up finds it.
-fn check_found<X: Shown>(rt: &impl Abort, table: &Table<X>, entries: &[X]) {
-    for entry in entries {
-        assert_eq!(rt; told(table.lookup(entry.key())), Some(entry.shown()));
+impl<R: Abort, X: Entry + PartialEq + Debug> Trial<'_, '_, R, X> {
+    // Looking each of the entries up finds it.
+    fn check_found(&self, entries: &[X]) {
+        for entry in entries {
+            assert_eq!(self.rt; self.table.lookup(entry.key()), Some(*entry));
+        }
     }
-}
 
-// Neither looking the entry up nor removing it finds one.
-fn check_lacking<X: Shown>(rt: &impl Abort, table: &mut Table<X>, entry: X) {
-    assert_eq!(rt; told(table.lookup(entry.key())), None);
-    assert_eq!(rt; told(table.remove(entry.key())), None);
-}
-
-// These entries stand in this order, and no other.
-fn check_order<X: Shown>(rt: &impl Abort, table: &Table<X>, entries: &[X]) {
-    for (place, entry) in entries.iter().enumerate() {
-        assert_eq!(rt; told(table.at(place)), Some(entry.shown()));
+    // Neither looking the entry up nor removing it finds one.
+    fn check_lacking(&mut self, entry: X) {
+        assert_eq!(self.rt; self.table.lookup(entry.key()), None);
+        assert_eq!(self.rt; self.table.remove(entry.key()), None);
     }
-    assert_eq!(rt; told(table.at(entries.len())), None);
-}
 
-fn check_removed<X: Shown>(rt: &impl Abort, table: &mut Table<X>, entry: X) {
-    assert_eq!(rt; told(table.remove(entry.key())), Some(entry.shown()));
-}
+    // These entries stand in this order, and no other.
+    fn check_order(&self, entries: &[X]) {
+        for (place, entry) in entries.iter().enumerate() {
+            assert_eq!(self.rt; self.table.at(place), Some(*entry));
+        }
+        assert_eq!(self.rt; self.table.at(entries.len()), None);
+    }
 
-// Fills the table out of order; a key that stands is refused before a sixth entry is.
-fn fill<X: Shown>(rt: &impl Abort, table: &mut Table<X>, entries: &[X; 7]) {
-    let [a, b, c, d, e, f, g] = *entries;
-    assert_eq!(rt; table.insert(d), Ok(0));
-    assert_eq!(rt; table.insert(a), Ok(0));
-    assert_eq!(rt; table.insert(e), Ok(2));
-    assert_eq!(rt; table.insert(c), Ok(1));
-    assert_eq!(rt; table.insert(c), Err(Refused::Present));
-    assert_eq!(rt; table.len(), 4);
-    assert_eq!(rt; table.insert(b), Ok(1));
-    assert_eq!(rt; table.len(), 5);
-    assert_eq!(rt; table.insert(e), Err(Refused::Present));
-    assert_eq!(rt; table.insert(f), Err(Refused::Full));
-    assert_eq!(rt; table.insert(g), Err(Refused::Full));
-    assert_eq!(rt; table.len(), 5);
-}
+    fn check_removed(&mut self, entry: X) {
+        assert_eq!(self.rt; self.table.remove(entry.key()), Some(entry));
+    }
 
-// Five entries stand in this order, and a sixth does not.
-fn check_standing<X: Shown>(rt: &impl Abort, table: &mut Table<X>, five: [X; 5], absent: X) {
-    check_order(rt, table, &five);
-    check_found(rt, table, &five);
-    check_lacking(rt, table, absent);
-}
+    // Fills the table out of order; a key that stands is refused before a sixth entry is.
+    fn fill(&mut self, entries: &[X; 7]) {
+        let [a, b, c, d, e, f, g] = *entries;
+        assert_eq!(self.rt; self.table.insert(d), Ok(0));
+        assert_eq!(self.rt; self.table.insert(a), Ok(0));
+        assert_eq!(self.rt; self.table.insert(e), Ok(2));
+        assert_eq!(self.rt; self.table.insert(c), Ok(1));
+        assert_eq!(self.rt; self.table.insert(c), Err(Refused::Present));
+        assert_eq!(self.rt; self.table.len(), 4);
+        assert_eq!(self.rt; self.table.insert(b), Ok(1));
+        assert_eq!(self.rt; self.table.len(), 5);
+        assert_eq!(self.rt; self.table.insert(e), Err(Refused::Present));
+        assert_eq!(self.rt; self.table.insert(f), Err(Refused::Full));
+        assert_eq!(self.rt; self.table.insert(g), Err(Refused::Full));
+        assert_eq!(self.rt; self.table.len(), 5);
+    }
 
-// Removes the five in another order, looking at the rest between.
-fn empty<X: Shown>(rt: &impl Abort, table: &mut Table<X>, entries: &[X; 7]) {
-    let [a, b, c, d, e, _, _] = *entries;
-    check_removed(rt, table, c);
-    check_removed(rt, table, a);
-    check_removed(rt, table, e);
-    assert_eq!(rt; table.len(), 2);
-    check_order(rt, table, &[b, d]);
-    check_lacking(rt, table, c);
-    check_removed(rt, table, b);
-    check_found(rt, table, &[d]);
-    check_removed(rt, table, d);
-    assert_eq!(rt; table.len(), 0);
-    check_order(rt, table, &[]);
-}
+    // Five entries stand in this order, and a sixth does not.
+    fn check_standing(&mut self, five: [X; 5], absent: X) {
+        self.check_order(&five);
+        self.check_found(&five);
+        self.check_lacking(absent);
+    }
 
-// Fills the empty table anew.
-fn refill<X: Shown>(rt: &impl Abort, table: &mut Table<X>, others: &[X; 7]) {
-    let [a, b, c, d, _, f, g] = *others;
-    assert_eq!(rt; table.insert(g), Ok(0));
-    assert_eq!(rt; table.insert(b), Ok(0));
-    assert_eq!(rt; table.insert(f), Ok(1));
-    assert_eq!(rt; table.insert(d), Ok(1));
-    assert_eq!(rt; table.insert(b), Err(Refused::Present));
-    assert_eq!(rt; table.insert(a), Ok(0));
-    assert_eq!(rt; table.insert(c), Err(Refused::Full));
-    assert_eq!(rt; table.insert(g), Err(Refused::Present));
-    assert_eq!(rt; table.len(), 5);
+    // Removes the five in another order, looking at the rest between.
+    fn empty(&mut self, entries: &[X; 7]) {
+        let [a, b, c, d, e, _, _] = *entries;
+        self.check_removed(c);
+        self.check_removed(a);
+        self.check_removed(e);
+        assert_eq!(self.rt; self.table.len(), 2);
+        self.check_order(&[b, d]);
+        self.check_lacking(c);
+        self.check_removed(b);
+        self.check_found(&[d]);
+        self.check_removed(d);
+        assert_eq!(self.rt; self.table.len(), 0);
+        self.check_order(&[]);
+    }
+
+    // Fills the empty table anew.
+    fn refill(&mut self, others: &[X; 7]) {
+        let [a, b, c, d, _, f, g] = *others;
+        assert_eq!(self.rt; self.table.insert(g), Ok(0));
+        assert_eq!(self.rt; self.table.insert(b), Ok(0));
+        assert_eq!(self.rt; self.table.insert(f), Ok(1));
+        assert_eq!(self.rt; self.table.insert(d), Ok(1));
+        assert_eq!(self.rt; self.table.insert(b), Err(Refused::Present));
+        assert_eq!(self.rt; self.table.insert(a), Ok(0));
+        assert_eq!(self.rt; self.table.insert(c), Err(Refused::Full));
+        assert_eq!(self.rt; self.table.insert(g), Err(Refused::Present));
+        assert_eq!(self.rt; self.table.len(), 5);
+    }
 }
 
 // Fills, empties and refills a table over five places. The entries' keys ascend; the others have the same keys and carry other values.
-pub fn fill_empty_refill<X: Shown>(
+pub fn fill_empty_refill<X: Entry + PartialEq + Debug>(
     rt: &impl Abort,
     places: &mut [X],
     entries: &[X; 7],
     others: &[X; 7],
 ) {
-    let mut table = Table::new(places, 5);
+    let table = Table::new(places, 5);
     assert_eq!(rt; table.capacity(), 5);
-    fill(rt, &mut table, entries);
+    let mut trial = Trial { rt, table };
+    trial.fill(entries);
     let [a, b, c, d, e, f, _] = *entries;
-    check_standing(rt, &mut table, [a, b, c, d, e], f);
-    empty(rt, &mut table, entries);
-    refill(rt, &mut table, others);
+    trial.check_standing([a, b, c, d, e], f);
+    trial.empty(entries);
+    trial.refill(others);
     let [a, b, c, d, _, f, g] = *others;
-    check_standing(rt, &mut table, [a, b, d, f, g], c);
+    trial.check_standing([a, b, d, f, g], c);
 }

@@ -1,9 +1,10 @@
 // Why a call was refused, and where in the record text the cause stands: one fault type for the whole engine.
 #![tactic(auto)]
 
-ghost use Rattle.std.specs.Prelude.{◌≡◌};
+ghost use Rattle.std.specs.Prelude.{◌≡◌, Some};
 ghost use Rattle.faults.specs.Numbers.{number, layer};
 ghost use Rattle.faults.specs.Faults.{AnswersBy, check, direct};
+ghost use Rattle.faults.specs.Shown.{fault_text};
 
 use std::error::Error;
 use std::fmt;
@@ -101,12 +102,16 @@ impl Fault {
 }
 
 impl fmt::Display for Fault {
+    ghost output = { λ fault. Some (fault_text fault) };
+
     fn fmt<W: fmt::Write>(&self, f: &mut fmt::Formatter<W>) -> fmt::Result {
-        write!(f, "refusal {}", self.refusal.number())?;
-        if self.record > 0 {
-            write!(f, " at record {}, field {}", self.record, self.field)?;
-        }
-        Ok(())
+        let Fault {
+            refusal,
+            record,
+            field,
+        } = *self;
+        let number = refusal.number();
+        write!(f, "refusal {number}, record {record}, field {field}")
     }
 }
 

@@ -3,7 +3,7 @@
 
 ghost use Rattle.std.specs.Prelude.{◌≡◌};
 ghost use Rattle.faults.specs.Faults.{AnswersBy};
-ghost use Rattle.kinds.specs.Kinds.{answered, kind_refusal, HasGiven};
+ghost use Rattle.kinds.specs.Kinds.{answered, kind_refusal, known_kind, HasGiven};
 ghost use Rattle.normal.specs.Rules.{normal_rules};
 ghost use Rattle.rectangular.specs.Rules.{rectangular_rules};
 ghost use Rattle.kinds.specs.declared.Kind.TheVariants.{Normal as N, Rectangular as R};
@@ -20,6 +20,13 @@ pub enum Kind {
     Rectangular(Rectangular),
 }
 
+// Whether a letter names a kind.
+pub fn names_kind(letter: char) -> bool
+    ensures { result ≡ known_kind letter }
+{
+    matches!(letter, 'N' | 'R')
+}
+
 impl Kind {
     // The kind of this letter with this spread: a standard uncertainty under N, a half-width under R.
     pub fn new(letter: char, spread: i64) -> Result<Self, Fault>
@@ -33,7 +40,7 @@ impl Kind {
     }
 }
 
-// A match and no `dyn`: that would need memory from outside, and hide that there are these two kinds and no other.
+// An enum and no `Box<dyn Knowledge>`, which would allocate and hide that there are two kinds.
 impl Knowledge for Kind {
     ghost answers = { answered };
 

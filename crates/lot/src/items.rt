@@ -12,7 +12,7 @@ pub struct ItemFields {
 }
 
 // One item of a lot with its judgement.
-#[derive(Clone, Copy)]
+#[derive(Clone, Copy, PartialEq, Eq, Debug)]
 pub struct Item {
     pub number: u32,
     pub class: u8,

@@ -1,4 +1,4 @@
-// A lot: items entered under a sheet of requirements, with a row for each class and what its sums guarantee.
+// What a lot stores: its items, and the row of a class; with the definitions of a lot's book and what its class sums guarantee.
 #![tactic(auto)]
 
 mod items;

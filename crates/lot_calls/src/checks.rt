@@ -10,11 +10,14 @@ use judging::Judgement;
 use lot::{Item, ItemFields};
 use requirement::{in_reach, is_characteristic, is_class};
 
+// The numbers of items run from 1 to this one.
+const LAST_NUMBER: i64 = 999_999_999;
+
 // Whether a number can be that of an item.
 pub(crate) fn is_number(value: i64) -> bool
     ensures { result ≡ is_number value }
 {
-    (1..=999_999_999).contains(&value)
+    (1..=LAST_NUMBER).contains(&value)
 }
 
 // Whether number, class and characteristic are in range.

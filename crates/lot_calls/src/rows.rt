@@ -25,6 +25,8 @@ impl Rows {
         self.by_class[class.place()]
     }
 
+    // No operators of `Row`: the bounds that keep the sums from overflowing stand here as clauses, where a trait would put them out of sight.
+
     // Adds the share of one more item to the row of its class, and leaves the others.
     pub(crate) fn raise(&mut self, class: Class, share: Row)
         requires many { RowOfAtMost 10000 (row_for self.old class.number) }

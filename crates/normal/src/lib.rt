@@ -30,7 +30,8 @@ const ROUNDING_AND_SAG: u32 = 308;
 // The floor from four standard uncertainties on, in millionths: the table's last value less its rounding.
 const FAR_FLOOR: u32 = 999_965;
 
-// A normal state of knowledge.
+// A normal state of knowledge. Not one type with the rectangular kind over a bound: definitions and callers read the number by its
+// name, a half-width there and a standard uncertainty here.
 #[derive(Clone, Copy)]
 pub struct Normal {
     standard_uncertainty: u32,
@@ -100,7 +101,8 @@ impl Knowledge for Normal {
     }
 
     fn width(&self) -> u32 {
-        314
+        // The one more is for the floor's rounding down and the ceiling's rounding up.
+        TABLE_ROUNDING + ROUNDING_AND_SAG + 1
     }
 }
 

@@ -67,12 +67,12 @@ fn main(rt: HostRuntime) -> anyhow::Result<()> {
         )?;
         let (floor, ceiling) = kind.at_most(row.offset);
         if !brackets(floor, ceiling, &row) {
-            outside = outside.wrapping_add(1);
+            outside = outside.saturating_add(1);
         }
         if through_layers(kind, row.offset) != (floor, ceiling) {
-            different = different.wrapping_add(1);
+            different = different.saturating_add(1);
         }
-        compared = compared.wrapping_add(1);
+        compared = compared.saturating_add(1);
     }
     println!(rt;
         "{compared} values compared: {outside} outside floor and ceiling, {different} different through bias layers"

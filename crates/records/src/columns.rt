@@ -1,4 +1,4 @@
-// The columns of the records: a field to its value, or the fault of the field. The three `said_` functions are those of `fields`, told by columns.
+// The columns of the records: a field to its value, or the fault of the field.
 ghost use Rattle.std.specs.Prelude.{◌≡◌, cond, Ok, Err};
 ghost use Rattle.faults.specs.Ranges.{from_to};
 ghost use Rattle.fields.specs.Values.{number_of};
@@ -9,8 +9,11 @@ ghost use Rattle.records.specs.Cells.{cell, column_answer};
 
 use faults::{Fault, Refusal};
 use fields::{letter, limit};
+use kinds::names_kind;
 use requirement::{Mode, limit_in_reach, names_rule};
 use text::Placed;
+
+// The three `said_` functions: each restates the contract of a function of `fields` by its column, which the readers below are proved from.
 
 // The number that a field says.
 pub(crate) fn said_number(field: Placed<'_>) -> Result<i64, Fault>
@@ -90,15 +93,10 @@ pub(crate) fn kind_letter(field: Placed<'_>) -> Result<char, Fault>
     ensures { result ≡ column_answer (cell field.entry) kind_in letter_of }
 {
     let found = said_letter(field)?;
-    admitted(
-        field,
-        found,
-        matches!(found, 'N' | 'R'),
-        Refusal::UnknownLetter,
-    )
+    admitted(field, found, names_kind(found), Refusal::UnknownLetter)
 }
 
-// The number of a mode.
+// The number of a mode. The row keeps the number, as `Requirement::new` takes a row of any values.
 pub(crate) fn mode_number(field: Placed<'_>) -> Result<i64, Fault>
     ensures { result ≡ column_answer (cell field.entry) mode_in number_of }
 {

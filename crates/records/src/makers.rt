@@ -15,7 +15,7 @@ use kinds::Kind;
 use requirement::{LAST_CHARACTERISTIC, LAST_CLASS, REACH, RequirementRow};
 use text::Placed;
 
-// The numbers of items run from 1 to this one.
+// The numbers of items run from 1 to this one. The lot, which this crate does not see, tests the same bound.
 const LAST_NUMBER: i64 = 999_999_999;
 
 // The requirement that the fields make.
@@ -52,7 +52,7 @@ fn known_kind(letter: char, spread: Placed<'_>) -> Result<Kind, Fault>
     ensures letter { IfOk result (λ k. letter_of k ≡ letter) }
 {
     let value = said_number(spread)?;
-    // A known letter can only be refused for its spread. (A closure's `spread.fault(fault.refusal)` would tell the proof nothing.)
+    // A known letter can only be refused for its spread. No `map_err`: the proof has `or` as one equation, and there two cases about a closure.
     Kind::new(letter, value).or(Err(spread.fault(Refusal::OutOfRange)))
 }
 

@@ -85,8 +85,8 @@ impl fmt::Display for Typed {
     }
 }
 
-// The records of a text, up to its end or the text's fault. The loop stands in text_tests too, over another list and another form of a
-// record: a shared one would need a trait for these two, longer than the loop.
+// The records of a text, up to its end or the text's fault. The loop stands in text_tests too: a shared one would take what is done with each
+// record as a closure, and so require of its callers that this may be called, which no public function here does.
 #[derive(Clone, Copy)]
 pub struct Records<'a>(pub &'a [u8]);
 

@@ -26,7 +26,7 @@ pub fn is_characteristic(value: i64) -> bool
 }
 
 // What is required of one characteristic of the roads of one class.
-#[derive(Clone, Copy)]
+#[derive(Clone, Copy, PartialEq, Eq, Debug)]
 pub struct Requirement {
     class: u8,
     characteristic: u8,

@@ -46,12 +46,12 @@ impl RequirementRow {
         requires { (tolerance.now.lower ≡ self.now.lower) × ((tolerance.now.upper ≡ self.now.upper) × (Some mode ≡ mode_of self.now.mode)) }
         ensures { AnswersBy (suit_refusal self.now) result (λ x. (Some x ≡ rule_of self.now.letter self.now.first self.now.second) × (together x self.now.lower self.now.upper mode ≡ true)) }
     {
-        match Rule::from_letter(self.letter, self.first, self.second) {
-            Some(rule)
-                if rule.numbers_fit() && rule.fits_limits(tolerance) && rule.fits_mode(mode) => Ok(
-                rule,
-            ),
-            _ => Err(Fault::direct(Refusal::AgainstRule)),
-        }
+        let rule = Rule::from_letter(self.letter, self.first, self.second).ok_or(Fault::direct(
+            Refusal::AgainstRule,
+        ))?;
+        Refusal::AgainstRule.unless(
+            rule.numbers_fit() && rule.fits_limits(tolerance) && rule.fits_mode(mode),
+        )?;
+        Ok(rule)
     }
 }

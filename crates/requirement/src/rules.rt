@@ -7,6 +7,15 @@ ghost use Rattle.requirement.specs.Rules.{rule_of, mode_of, known_letter, is_sha
 use crate::Tolerance;
 use faults::{Fault, Refusal};
 
+// The greatest share of the risk on one side, in millionths: one half.
+const GREATEST_SHARE: i64 = 500_000;
+
+// The greatest width of a guard band, to either side, in steps.
+const GREATEST_WIDTH: i64 = 100_000;
+
+// How many times the expanded uncertainty a guard band has at most, to either side, in hundredths.
+const GREATEST_TIMES: i64 = 200;
+
 // How acceptance limits come from tolerance limits. Each case holds what its rule needs.
 #[derive(Clone, Copy, PartialEq, Eq, Debug)]
 pub enum Rule {
@@ -38,7 +47,7 @@ pub fn names_rule(letter: char) -> bool
 fn is_share(value: i64) -> bool
     ensures { result ≡ is_share value }
 {
-    (0..=500_000).contains(&value)
+    (0..=GREATEST_SHARE).contains(&value)
 }
 
 impl Rule {
@@ -65,8 +74,8 @@ impl Rule {
     {
         match self {
             Rule::Simple => true,
-            Rule::Guard(width) => (-100_000..=100_000).contains(&width),
-            Rule::Multiple(hundredths) => (-200..=200).contains(&hundredths),
+            Rule::Guard(width) => (-GREATEST_WIDTH..=GREATEST_WIDTH).contains(&width),
+            Rule::Multiple(hundredths) => (-GREATEST_TIMES..=GREATEST_TIMES).contains(&hundredths),
             Rule::Shares(lower, upper) => is_share(i64::from(lower)) && is_share(i64::from(upper)),
         }
     }

@@ -30,7 +30,7 @@ pub fn within(lower: Option<i64>, upper: Option<i64>, value: i64) -> bool
 }
 
 // A lower and an upper tolerance limit. Either may be absent, never both; both belong to the interval.
-#[derive(Clone, Copy)]
+#[derive(Clone, Copy, PartialEq, Eq, Debug)]
 pub struct Tolerance {
     lower: Option<i64>,
     upper: Option<i64>,

@@ -18,18 +18,16 @@ pub const MOST_PLACES: usize = 10_000;
 pub fn check_places(places: usize) -> Result<(), Fault>
     ensures { AnswersBy (list_refusal places) result (λ _. Unit {0}) }
 {
-    if places > MOST_PLACES {
-        return Err(Fault::direct(Refusal::OutOfRange));
-    }
-    Ok(())
+    Refusal::OutOfRange.unless(places <= MOST_PLACES)
 }
 
-// How many places a list of so many gives a sheet or a lot: all of its own, but none where the check refuses it.
+// How many places a list of so many gives a sheet or a lot: all of its own, but none where `check_places` refuses it.
 pub fn usable_places(places: usize) -> usize
     ensures { result ≡ places_of places }
 {
-    match check_places(places) {
-        Ok(()) => places,
-        Err(_) => 0,
+    if check_places(places).is_ok() {
+        places
+    } else {
+        0
     }
 }

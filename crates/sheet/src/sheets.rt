@@ -1,4 +1,5 @@
-// A sheet: making it, adding to it and finding in it.
+// A sheet: making it, adding to it and finding in it. A clause `list` or `same` tells of the caller's list, by what it was before
+// a call and is after it: a fact of both together, so that no field of the sheet can hold it.
 ghost use Rattle.std.specs.Prelude.{◌≡◌, [], length};
 ghost use Rattle.table.specs.Tables.{standing, capacity};
 ghost use Rattle.sheet.specs.Lists.{places_of};
@@ -26,7 +27,7 @@ fn refusal_of(refused: Refused) -> Refusal
 }
 
 impl<'a> Sheet<'a> {
-    // An empty sheet over the list; one that the check refuses has no place.
+    // An empty sheet over the list; one that `check_places` refuses has no place.
     pub fn new(places: &'a mut [Requirement]) -> Self
         ensures list { result.table.places.now ≡ places.old }
         ensures same { result.table.places.ghost_name ≡ places.entry.ghost_name }

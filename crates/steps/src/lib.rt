@@ -1,4 +1,4 @@
-// Readings of a haul road carried from what is required of them to their verdicts, each step printed. What is printed has no clause.
+// Readings of a haul road carried from what is required of them to their verdicts, each step printed. What is printed has no contract.
 #![tactic(auto)]
 
 mod carried;

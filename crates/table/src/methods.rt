@@ -1,4 +1,5 @@
-// Making a table, reading it, finding in it, and what puts an entry in or takes one out.
+// Making a table, reading it, finding in it, and what puts an entry in or takes one out. A clause `same` says that a call leaves the table
+// over the caller's own list: a fact of before and after together, so that no field of the table can hold it.
 ghost use Rattle.std.specs.Prelude.{◌≡◌, min, [], length, nat_le};
 ghost use Rattle.std.specs.List.{slice_get};
 ghost use Rattle.table.specs.Changes.{Allowed, Insertion, Picked, Removal};

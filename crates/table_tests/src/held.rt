@@ -1,4 +1,5 @@
 // A table within a struct: its order is the table's own, so a caller has the outcome of every call with nothing to show.
+// A clause `same` says that a call leaves it over the caller's own list: a fact of before and after together, which no field can hold.
 ghost use Rattle.std.specs.Prelude.{◌≡◌, [], length};
 ghost use Rattle.table.specs.Changes.{Allowed, Insertion, Picked, Removal};
 ghost use Rattle.table.specs.Tables.{capacity, standing};
@@ -31,8 +32,8 @@ impl<'a> Held<'a> {
         ensures outcome { Allowed (λ e. e.number) self.old.table reading.number result }
     {
         let entered = self.table.insert(reading);
-        if entered.is_ok() && self.entered < u32::MAX {
-            self.entered += 1;
+        if entered.is_ok() {
+            self.entered = self.entered.saturating_add(1);
         }
         entered
     }

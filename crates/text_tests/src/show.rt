@@ -48,7 +48,8 @@ impl fmt::Display for Listed<'_> {
     }
 }
 
-// The records of a text, up to its end or its fault.
+// The records of a text, up to its end or its fault. The loop stands in records_tests too: a shared one would take what is done with each
+// record as a closure, and so require of its callers that this may be called, which no public function here does.
 #[derive(Clone, Copy)]
 pub struct Records<'a>(pub &'a [u8]);
 

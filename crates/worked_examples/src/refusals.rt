@@ -109,6 +109,26 @@ fn in_range(row: RequirementRow, number: Option<u8>) -> Calls {
     }
 }
 
+// The calls on another reading: bracket and judge refuse it with 12, limits answers as before.
+fn at_reading(base: Calls, reading: i64) -> Calls {
+    Calls {
+        reading,
+        bracket: Some(12),
+        judge: Some(12),
+        ..base
+    }
+}
+
+// The calls with another expanded uncertainty: limits and judge refuse it with 12, bracket answers as before.
+fn at_expanded(base: Calls, expanded: i64) -> Calls {
+    Calls {
+        expanded,
+        limits: Some(12),
+        judge: Some(12),
+        ..base
+    }
+}
+
 // A number out of range comes before an offset that is not there, and this before acceptance limits that cross.
 #[test]
 fn calls_in_order(rt: HostRuntime) -> Result<(), Fail> {
@@ -117,56 +137,16 @@ fn calls_in_order(rt: HostRuntime) -> Result<(), Fail> {
     let crossed = in_range(ruled('G', 51, 0, 2), Some(32));
     let calls = [
         good,
-        Calls {
-            reading: 1_000_001,
-            bracket: Some(12),
-            judge: Some(12),
-            ..good
-        },
-        Calls {
-            reading: -1_000_001,
-            bracket: Some(12),
-            judge: Some(12),
-            ..good
-        },
-        Calls {
-            expanded: -1,
-            limits: Some(12),
-            judge: Some(12),
-            ..good
-        },
-        Calls {
-            expanded: 1_000_001,
-            limits: Some(12),
-            judge: Some(12),
-            ..good
-        },
+        at_reading(good, 1_000_001),
+        at_reading(good, -1_000_001),
+        at_expanded(good, -1),
+        at_expanded(good, 1_000_001),
         too_sure,
-        Calls {
-            reading: 1_000_001,
-            bracket: Some(12),
-            judge: Some(12),
-            ..too_sure
-        },
-        Calls {
-            expanded: -1,
-            limits: Some(12),
-            judge: Some(12),
-            ..too_sure
-        },
+        at_reading(too_sure, 1_000_001),
+        at_expanded(too_sure, -1),
         crossed,
-        Calls {
-            reading: 1_000_001,
-            bracket: Some(12),
-            judge: Some(12),
-            ..crossed
-        },
-        Calls {
-            expanded: -1,
-            limits: Some(12),
-            judge: Some(12),
-            ..crossed
-        },
+        at_reading(crossed, 1_000_001),
+        at_expanded(crossed, -1),
         in_range(ruled('P', 34, 500_000, 2), Some(31)),
         in_range(ruled('P', 25_000, 25_000, 2), Some(32)),
     ];

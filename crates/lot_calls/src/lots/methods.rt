@@ -37,7 +37,7 @@ fn judged_by<K: Knowledge>(
 }
 
 impl<'a> Lot<'a> {
-    // An empty lot over the list; one that the check refuses has no place.
+    // An empty lot over the list; one that `check_places` refuses has no place.
     pub fn new(places: &'a mut [Item]) -> Self
         ensures list { result.table.places.now ≡ places.old }
         ensures same { result.table.places.ghost_name ≡ places.entry.ghost_name }
@@ -93,6 +93,7 @@ impl<'a> Lot<'a> {
         ensures stands { StandsEntered self.old item self.new }
         ensures keeps { room self.new ≡ room self.old }
     {
+        // Never refused: the number is free and there is room.
         let _ = self.table.insert(item);
         self.rows
             .raise(Class::of(&item), Row::share_of(&item.judgement));
