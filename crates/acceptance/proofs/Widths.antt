@@ -1,13 +1,16 @@
 -- Hundredths rounded up, and how wide a guard band can be.
-use Rattle.std.proofs.Common.{◌≡◌, zero, suc, true, ℤ, pos, negsuc, ◌-ℤ◌, ◌*ℤ◌, neg_ℤ, ◌≤ℤ◌, refl, ap, ◌∙◌, arith}
+use Rattle.std.proofs.Common.{◌≡◌, zero, suc, true, Option, ℤ, pos, negsuc, ◌+ℤ◌, ◌-ℤ◌, ◌*ℤ◌, neg_ℤ, ◌≤ℤ◌, refl, ap, ◌∙◌, arith}
 use lib.IntN.{+ℤ_idl}
 use Rattle.std.specs.Int.{int_div_euclid}
+use Rattle.std.specs.Option.{option_map}
 use Rattle.std.proofs.lemmas.Nat.{mul-le}
 use Rattle.std.specs.Int.RustNames.{unsigned_abs}
 use Rattle.std.proofs.lemmas.Int.{ints, unsigned_abs-mul}
 use Rattle.faults.specs.Ranges.{from_to}
 use Rattle.requirement.proofs.Reach.{range_out, range_in}
+use Rattle.requirement.specs.Limits.{within}
 use Rattle.acceptance.specs.Guard.{is_expanded, is_width, hundredths_up, LeastHundredth}
+use Rattle.acceptance.specs.Acceptance.{guarded, widened}
 
 -- the program's way: the negative of the negative rounded down
 by_negatives : (z : ℤ) → neg_ℤ (int_div_euclid (neg_ℤ z) (pos 100)) ≡ hundredths_up z
@@ -36,3 +39,13 @@ pub width_within : (z : ℤ) → neg_ℤ (pos 200000000) ≤ℤ z → z ≤ℤ p
 width_within z h h' =
     let least = least_hundredth z in
     range_in (neg_ℤ (pos 2000000)) (pos 2000000) (hundredths_up z) (omega (arith, ints, least.not_below)) (omega (arith, ints, least.none_less))
+
+less_negative : (w x : ℤ) → x +ℤ (pos 0 -ℤ w) ≡ x -ℤ w
+less_negative w x = omega (arith, ints)
+
+more_negative : (w x : ℤ) → x -ℤ (pos 0 -ℤ w) ≡ x +ℤ w
+more_negative w x = omega (arith, ints)
+
+-- inwards by the negative width is outwards by the width
+pub narrowed_by_negative : (l u : Option ℤ) (w y : ℤ) → within (guarded l u (pos 0 -ℤ w)).lower (guarded l u (pos 0 -ℤ w)).upper y ≡ widened l u w y
+narrowed_by_negative l u w y i = within (option_map (λ x. less_negative w x i) l) (option_map (λ x. more_negative w x i) u) y

@@ -15,20 +15,20 @@ use requirement::{Requirement, Rule, Tolerance};
 // The acceptance limits under the shares rule, refused if a side has no offset that keeps its share.
 fn by_shares<K: Knowledge>(
     tolerance: &Tolerance,
-    lower: u32,
-    upper: u32,
+    lower_share: u32,
+    upper_share: u32,
     knowledge: &K,
 ) -> Result<Acceptance, Fault>
-    ensures { result ≡ ok_or (both_limits (share_limit (K.answers knowledge.now) Side.Lower tolerance.now.lower lower) (share_limit (K.answers knowledge.now) Side.Upper tolerance.now.upper upper)) (direct NoOffset) }
+    ensures { result ≡ ok_or (both_limits (share_limit (K.answers knowledge.now) Side.Lower tolerance.now.lower lower_share) (share_limit (K.answers knowledge.now) Side.Upper tolerance.now.upper upper_share)) (direct NoOffset) }
 {
     let below = SideShare {
         side: Side::Lower,
-        share: lower,
+        share: lower_share,
         knowledge,
     };
     let above = SideShare {
         side: Side::Upper,
-        share: upper,
+        share: upper_share,
         knowledge,
     };
     let lower = below.acceptance_limit(tolerance.lower())?;

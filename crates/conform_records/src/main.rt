@@ -9,7 +9,7 @@ use std::io::{Read, Write};
 use text::LONGEST;
 
 // Reads until the input ends or the buffer is full, and answers how many bytes were read.
-// The count goes beside a fixed buffer, so that nothing is allocated to read, and a text too long is told without reading on.
+// One fixed buffer, filled no further than it takes to tell that a text is too long: reading asks for no memory.
 fn fill(input: &mut impl Read, buffer: &mut [u8]) -> io::Result<usize>
     ensures { IfOk result (λ n. n ≤ length buffer.new) }
 {

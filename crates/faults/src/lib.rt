@@ -80,7 +80,7 @@ impl Refusal {
     }
 }
 
-// A refusal with the record and the field that it concerns, both 0 where a call has no record text.
+// A refusal with the record and the field that it concerns, both 0 where a call has no record text: 0 and no Option, as it is what the output writes.
 #[derive(Clone, Copy, PartialEq, Eq, Debug)]
 pub struct Fault {
     pub refusal: Refusal,

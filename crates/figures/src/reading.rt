@@ -40,8 +40,5 @@ fn judged_grade(reading: i64) -> Result<Judgement, Fault>
 pub fn greatest_passing_grade() -> Judgement
     ensures { Passes result }
 {
-    match judged_grade(910) {
-        Ok(judgement) => judgement,
-        Err(_) => unreachable(),
-    }
+    judged_grade(910).unwrap()
 }

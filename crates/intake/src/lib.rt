@@ -63,7 +63,7 @@ fn add(number: u32, row: &RequirementRow, sheet: &mut Sheet<'_>) -> Result<Taken
     Ok(Taken::Added)
 }
 
-// What is entered of a record's item.
+// What is entered of a record's item. No `From`: both types are of other crates.
 fn fields_of(row: &ItemRow) -> ItemFields
     ensures { result ≡ fields_of (item_meant row.now) }
 {
@@ -90,7 +90,8 @@ fn enter(number: u32, row: &ItemRow, sheet: &Sheet<'_>, lot: &mut Lot<'_>) -> Re
 }
 
 // Takes in a record: a requirement for the sheet, or an item for the lot.
-// Sheet and lot come as two: the first changes the one alone, and the second reads it while it changes the other.
+// A requirement changes the sheet alone; an item changes the lot and only reads the sheet. So the two are parameters of their own,
+// and no struct of both is asked for a part.
 pub fn take_in(
     number: u32,
     fields: &[Placed<'_>],

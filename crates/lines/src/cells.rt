@@ -13,7 +13,7 @@ pub(crate) enum Cell {
 }
 
 impl Cell {
-    // Appends the field. No `Display`, since the contract gives every byte, by `push_decimal`'s digits, and nothing but the output is allocated.
+    // Appends the field. No `Display`: numbers are written by `push_decimal`'s digits, and an `AllocError` is passed on as it is.
     fn push(self, out: &mut Vec<u8>) -> Result<(), AllocError>
         ensures { OnOk result (out.new.items ≡ out.old.items ++ written self) }
     {

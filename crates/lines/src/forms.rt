@@ -70,7 +70,7 @@ mod tests {
     use std::process::Abort;
     use std::test::Fail;
 
-    // The line stands after what was there, byte by byte.
+    // The line stands after what was there, byte by byte. As in the tests of `numerals`: a helper of tests is not seen from another crate.
     fn check_line(rt: &(impl Abort + AllocGlobal), line: Line, due: &[u8]) -> Result<(), Fail> {
         let mut out = Vec::new(rt.alloc());
         out.push(b'=')?;

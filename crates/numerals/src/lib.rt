@@ -1,4 +1,4 @@
-// Whole numbers in decimal.
+// Whole numbers in decimal. By place values and no `write!`: each divisor is known when this is compiled, and the error says that memory is wanting.
 #![tactic(auto)]
 
 ghost use Rattle.std.specs.Prelude.{◌≡◌, ◌+◌, ◌-◌, ◌/◌, ◌%◌, ◌^◌, ◌<◌, ◌≤◌, true, ◌++◌, replicate, is_ok, if◌then◌else◌, vec_len, vec_capacity, decimal};
@@ -29,7 +29,7 @@ const BEYOND: u64 = 100_000_000_000;
 
 // The value of one of the places.
 fn place_value(place: usize) -> u64
-    requires { place < 11 }
+    requires { place < DIGITS }
     ensures { result ≡ 10 ^ (10 - place) }
 {
     PLACES[place]
@@ -44,12 +44,13 @@ fn digit(rest: u64, value: u64) -> u8
     b'0' + (rest / value) as u8
 }
 
-// No type keeps that a number has at most eleven digits: its makers would be asked for the same.
-// Writes the eleven digits over zeros, so that only the digits that are not 0 are computed. The places are gone through from the highest on, small number or not: so each divisor is known when this is compiled.
+// Writes the eleven digits over zeros, so that only the digits that are not 0 are computed. The places are gone through from the highest on,
+// small number or not: so each divisor is known when this is compiled.
+// The bound stands in three contracts: a type for it would be made in two places, each with the same proof.
 fn write_digits(digits: &mut [u8; DIGITS], number: u64)
-    requires zeros { digits.old ≡ replicate 11 48 }
-    requires few { number < 100000000000 }
-    ensures { digits.new ≡ lowest_digits 11 number }
+    requires zeros { digits.old ≡ replicate DIGITS 48 }
+    requires few { number < BEYOND }
+    ensures { digits.new ≡ lowest_digits DIGITS number }
 {
     let mut rest = number;
     // By index: `digits.iter_mut().zip(&PLACES)` costs the same, and leaves an invariant open that would speak of digits still lent to the loop.
@@ -64,7 +65,7 @@ fn write_digits(digits: &mut [u8; DIGITS], number: u64)
 
 // How many of the eleven digits are leading zeros; the last digit is none.
 fn leading_zeros(number: u64) -> usize
-    requires { number < 100000000000 }
+    requires { number < BEYOND }
     ensures { Skips number result }
 {
     let first = PLACES.iter().position(|value| *value <= number);
@@ -73,11 +74,11 @@ fn leading_zeros(number: u64) -> usize
 
 // Appends a number of at most eleven digits.
 fn push_short(out: &mut Vec<u8>, number: u64) -> Result<(), AllocError>
-    requires { number < 100000000000 }
+    requires { number < BEYOND }
     ensures items { out.new.items ≡ (if is_ok result then out.old.items ++ decimal number else out.old.items) }
-    ensures len { vec_len out.new ≤ vec_len out.old + 11 }
+    ensures len { vec_len out.new ≤ vec_len out.old + DIGITS }
     ensures capacity { vec_capacity out.old ≤ vec_capacity out.new }
-    ensures succeeds { vec_len out.old + 11 ≤ vec_capacity out.old → is_ok result ≡ true }
+    ensures succeeds { vec_len out.old + DIGITS ≤ vec_capacity out.old → is_ok result ≡ true }
 {
     let mut digits = [b'0'; DIGITS];
     write_digits(&mut digits, number);
@@ -86,7 +87,7 @@ fn push_short(out: &mut Vec<u8>, number: u64) -> Result<(), AllocError>
 
 // Appends a number of more than eleven digits. Room is made first, so that without memory nothing is written.
 fn push_long(out: &mut Vec<u8>, number: u64) -> Result<(), AllocError>
-    requires { 100000000000 ≤ number }
+    requires { BEYOND ≤ number }
     ensures { out.new.items ≡ (if is_ok result then out.old.items ++ decimal number else out.old.items) }
 {
     out.reserve(2 * DIGITS)?;

@@ -1,5 +1,5 @@
 // The lines of records and of classes.
-ghost use Rattle.std.specs.Prelude.{◌≡◌, ◌≤◌, ◌++◌, Ok, OnOk};
+ghost use Rattle.std.specs.Prelude.{◌≡◌, ◌≤◌, ◌++◌, OnOk};
 ghost use Rattle.std.specs.List.{flat_map};
 ghost use Rattle.lot_calls.specs.Lots.{items};
 ghost use Rattle.lines.specs.Lines.{spelled};
@@ -12,22 +12,13 @@ use lot::Row;
 use lot_calls::Lot;
 use std::alloc::AllocError;
 
-// The line of a record that was not refused: a requirement has none.
-fn taken_line(taken: Taken) -> Option<Line>
-    ensures { result ≡ line_for (Ok taken) }
-{
-    match taken {
-        Taken::Added => None,
-        Taken::Judged(number, judgement) => Some(Line::Item { number, judgement }),
-    }
-}
-
-// The line of a record.
+// The line of a record: a requirement that was added has none.
 pub(crate) fn line_for(answer: Result<Taken, Fault>) -> Option<Line>
     ensures { result ≡ line_for answer }
 {
     match answer {
-        Ok(taken) => taken_line(taken),
+        Ok(Taken::Added) => None,
+        Ok(Taken::Judged(number, judgement)) => Some(Line::Item { number, judgement }),
         Err(fault) => Some(Line::Refused(fault)),
     }
 }
@@ -43,6 +34,7 @@ pub(crate) fn push_if(line: Option<Line>, out: &mut Vec<u8>) -> Result<(), Alloc
 }
 
 // The line of a class from 1 to 9, if it has an entry.
+// A match: by `ok`, `filter` and `map`, what the three closures make of the tally stayed open.
 fn class_line(lot: &Lot<'_>, class: u8) -> Option<Line>
     requires { (1 ≤ class) × (class ≤ 9) }
     ensures { result ≡ class_line (items lot.now) class }

@@ -29,10 +29,7 @@ const UNUSED_ROW: RequirementRow = RequirementRow {
 };
 
 fn unused_requirement() -> Requirement {
-    match Requirement::new(&UNUSED_ROW) {
-        Ok(requirement) => requirement,
-        Err(_) => unreachable(),
-    }
+    Requirement::new(&UNUSED_ROW).unwrap()
 }
 
 // The whole output for a text: 100 requirements and 1,000 items may stand.

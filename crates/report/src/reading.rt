@@ -14,6 +14,7 @@ use text::{Placed, Reader};
 const FIELDS: usize = 10;
 
 // Reads the next record, takes it in and writes its line; answers whether there was one. A refusal of the text ends the reading.
+// Sheet, lot and output come as parameters of their own, as `take_in` and `Line::push` take them.
 fn turn<'t>(
     reader: &mut Reader<'t>,
     fields: &mut [Placed<'t>; FIELDS],

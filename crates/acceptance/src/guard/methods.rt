@@ -60,21 +60,12 @@ impl GuardBand {
         }
     }
 
-    // The tolerance limits moved outwards by the width.
-    fn widened(self, tolerance: &Tolerance) -> (Option<i64>, Option<i64>)
-        ensures { (result.0 ≡ option_map (λ x. x -ℤ self.width) tolerance.now.lower) × (result.1 ≡ option_map (λ x. x +ℤ self.width) tolerance.now.upper) }
-    {
-        (
-            tolerance.lower().map(|x| x - self.width),
-            tolerance.upper().map(|x| x + self.width),
-        )
-    }
-
     // Whether a reading lies within the tolerance limits moved outwards by the width.
     pub fn holds_widened(self, tolerance: &Tolerance, reading: i64) -> bool
         ensures { result ≡ widened tolerance.now.lower tolerance.now.upper self.width reading }
     {
-        let (lower, upper) = self.widened(tolerance);
-        within(lower, upper, reading)
+        let outwards = GuardBand { width: -self.width };
+        let wide = outwards.narrowed(tolerance);
+        within(wide.lower, wide.upper, reading)
     }
 }

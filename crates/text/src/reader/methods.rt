@@ -84,15 +84,13 @@ impl<'a> Reader<'a> {
     pub fn next_record(&mut self, fields: &mut [Placed<'a>]) -> Result<Option<Record>, Fault>
         ensures { Reads self.old self.new fields.old fields.new result }
     {
-        if self.rest.len() > LONGEST {
-            return Err(Fault::direct(Refusal::TextTooLong));
-        }
+        Refusal::TextTooLong.unless(self.rest.len() <= LONGEST)?;
         if self.rest.is_empty() {
             return Ok(None);
         }
         let number = self.record + 1;
         // The whole record is checked before its first field is written.
-        let _ = walk(self.rest, number, &mut [])?;
+        walk(self.rest, number, &mut [])?;
         let row = walk(self.rest, number, fields)?;
         self.rest = row.rest;
         self.record = number;
