@@ -52,7 +52,7 @@ fn known_kind(letter: char, spread: Placed<'_>) -> Result<Kind, Fault>
     ensures letter { IfOk result (λ k. letter_of k ≡ letter) }
 {
     let value = said_number(spread)?;
-    // A known letter can only be refused for its spread. No `map_err`: the proof has `or` as one equation, and there two cases about a closure.
+    // A known letter can only be refused for its spread. Not `map_err`: its contract is two cases about a closure, that of `or` one equation.
     Kind::new(letter, value).or(Err(spread.fault(Refusal::OutOfRange)))
 }
 
