@@ -34,15 +34,12 @@ pub(crate) fn push_if(line: Option<Line>, out: &mut Vec<u8>) -> Result<(), Alloc
 }
 
 // The line of a class from 1 to 9, if it has an entry.
-// A match: by `ok`, `filter` and `map`, what the three closures make of the tally stayed open.
 fn class_line(lot: &Lot<'_>, class: u8) -> Option<Line>
     requires { (1 ≤ class) × (class ≤ 9) }
     ensures { result ≡ class_line (items lot.now) class }
 {
-    match lot.tally(i64::from(class)) {
-        Ok(row) if !row.is_empty() => Some(Line::Class { class, row }),
-        _ => None,
-    }
+    let row = lot.tally(i64::from(class)).ok()?;
+    (!row.is_empty()).then_some(Line::Class { class, row })
 }
 
 // Appends the lines of the classes that have an entry, the lowest class first.
