@@ -8,7 +8,6 @@ ghost use Rattle.report.specs.Output.{line_for, listed, class_line, class_lines}
 use faults::Fault;
 use intake::Taken;
 use lines::Line;
-use lot::Row;
 use lot_calls::Lot;
 use std::alloc::AllocError;
 
