@@ -30,3 +30,19 @@ pub fn with_commas(heap: Global, case: &[u8]) -> Result<Vec<u8>, AllocError>
     text.resize(start.len() + commas, b',')?;
     Ok(text)
 }
+
+#[cfg(test)]
+mod tests {
+    use super::*;
+    use std::test::Fail;
+
+    // Two commas end a text of two bytes, and a case of fewer than three bytes is an empty text.
+    #[test]
+    fn commas_end_a_text(rt: HostRuntime) -> Result<(), Fail> {
+        let text = with_commas(rt.alloc(), b"\x00\x00\x02ab")?;
+        assert!(rt; text.as_slice() == b"ab,,".as_slice());
+        let none = with_commas(rt.alloc(), b"\x00\x00")?;
+        assert!(rt; none.is_empty());
+        Ok(())
+    }
+}
