@@ -72,7 +72,7 @@ fn leading_zeros(number: u64) -> usize
     first.unwrap_or(DIGITS - 1)
 }
 
-// Appends a number of at most eleven digits.
+// Appends a number of at most eleven digits. What a push leaves of the output is a fact of before and after, so each of the three says it.
 fn push_short(out: &mut Vec<u8>, number: u64) -> Result<(), AllocError>
     requires { number < BEYOND }
     ensures items { out.new.items ≡ (if is_ok result then out.old.items ++ decimal number else out.old.items) }

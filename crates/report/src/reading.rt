@@ -49,6 +49,7 @@ pub(crate) fn read_records(
 {
     let mut reader = Reader::new(text);
     let mut fields = [Placed::NONE; FIELDS];
+    // By turns: the reader hands out one record at a time, into the list that it is lent.
     while turn(&mut reader, &mut fields, sheet, lot, out)? {}
     Ok(())
 }

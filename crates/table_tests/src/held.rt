@@ -1,5 +1,5 @@
 // A table within a struct: its order is the table's own, so a caller has the outcome of every call with nothing to show.
-// A clause `same` says that a call leaves it over the caller's own list: a fact of before and after together, which no field can hold.
+// A clause `list` says that a call leaves it over the caller's own list: a fact of before and after together, which no field can hold.
 ghost use Rattle.std.specs.Prelude.{◌≡◌, [], length};
 ghost use Rattle.table.specs.Changes.{Allowed, Insertion, Picked, Removal};
 ghost use Rattle.table.specs.Tables.{capacity, standing};
