@@ -1,5 +1,7 @@
--- The least number over a half-width is the first that reaches it.
-use Rattle.std.proofs.Common.{◌≡◌, ℕ, zero, suc, ◌*◌, ◌<◌, ◌≤◌, Bool, true, false, sym, refl, ◌∙◌, subst, ⊎_elim, arith}
+-- The least number over a half-width is the first that reaches it, and a rounded product or the next number.
+use Rattle.std.proofs.Common.{◌≡◌, ℕ, zero, suc, ◌+◌, ◌*◌, ◌<◌, ◌≤◌, Bool, true, false, sym, refl, ◌∙◌, subst, ⊎_elim, mul-le-mul, arith}
+use native.Mathlib.Nat.{mul-mul-mul_comm}
+use Rattle.std.proofs.lemmas.Nat.{mul-lt}
 use Rattle.std.proofs.lemmas.Bool.{cases_eq, le-leb}
 use Rattle.expanded.specs.Expanded.{first_up_to, reaches, first_reaching, LeastOver}
 
@@ -25,3 +27,22 @@ at_most_twice s n l = grind (arith, l.least (2 * s))
 
 pub first_of_least : (s n : ℕ) → LeastOver s n → n ≡ first_reaching s
 first_of_least s n l = sym (first_found (reaches s) (2 * s) n (at_most_twice s n l) (le-leb _ _ l.reached) (λ m h. grind (arith, l.least m h)))
+
+-- what is at least the product reaches
+reached_above : (s n : ℕ) → s * 1154700539 ≤ n * 1000000000 → 4 * (s * s) ≤ 3 * (n * n)
+reached_above s n h = omega (arith, mul-le-mul h h, mul-mul-mul_comm)
+
+-- what is less than the product by one or more does not
+missed_below : (s m : ℕ) → s ≤ 400000 → (m + 1) * 1000000000 ≤ s * 1154700539 → 3 * (m * m) < 4 * (s * s)
+missed_below s m within h =
+    let less : m * 1000000000 < s * 1154700538 = omega arith in
+    omega (arith, mul-lt _ _ _ _ less less, mul-mul-mul_comm)
+
+-- the product rounded down, where it reaches
+pub least_below : (s n : ℕ) → s ≤ 400000 → n * 1000000000 ≤ s * 1154700539 → 4 * (s * s) ≤ 3 * (n * n) → LeastOver s n
+least_below s n within h reached = record { reached = reached; least = λ m less. missed_below s m within (omega arith) }
+
+-- the next number, where it does not
+pub least_above : (s n : ℕ) → s * 1154700539 < (n + 1) * 1000000000 → 3 * (n * n) < 4 * (s * s) → LeastOver s (n + 1)
+least_above s n h missed =
+    record { reached = reached_above s (n + 1) (omega arith); least = λ m less. let h : m ≤ n = omega arith in omega (arith, mul-le-mul h h) }

@@ -6,22 +6,29 @@ ghost use Rattle.expanded.specs.Expanded.{expanded_of, LeastOver, FollowsRule};
 
 use kinds::Kind;
 
-// Twice the half-width over the square root of 3, rounded up: the root rounded down, or the next number where that falls short.
+// Two over the square root of 3 in units of 10⁻⁹, rounded up.
+const TWO_OVER_ROOT_3: u64 = 1_154_700_539;
+
+// As many units make one.
+const UNITS: u64 = 1_000_000_000;
+
+// Twice the half-width over the square root of 3, rounded up. The factor is near enough for half-widths in range: no number before the product rounded down reaches, and the next one does.
+#[tactic(auto, using(crate::proofs::Firsts::least_below, crate::proofs::Firsts::least_above))]
 fn first_reaching(half_width: u32) -> u64
     requires { half_width ≤ 400000 }
     ensures { LeastOver half_width result }
 {
     let half_width = u64::from(half_width);
-    let due = 4 * (half_width * half_width);
-    let root = (due / 3).isqrt();
-    if 3 * (root * root) < due {
-        root + 1
+    let below = half_width * TWO_OVER_ROOT_3 / UNITS;
+    if 4 * (half_width * half_width) <= 3 * (below * below) {
+        below
     } else {
-        root
+        below + 1
     }
 }
 
 // The expanded uncertainty of a kind, in steps. A rectangular kind's standard uncertainty is its half-width over the square root of 3.
+#[tactic(auto, using(crate::proofs::Firsts::first_of_least, crate::proofs::Firsts::at_most_twice))]
 pub fn expanded_uncertainty(kind: &Kind) -> i64
     ensures value { result ≡ pos (expanded_of kind.now) }
     ensures rule { FollowsRule kind.now (expanded_of kind.now) }

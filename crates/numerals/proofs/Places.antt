@@ -1,6 +1,5 @@
 -- Digits by their places, and the decimal form made of them.
-use Rattle.std.specs.List.{AllWithin, HoldsAt}
-use Rattle.std.proofs.Common.{◌≡◌, MatchOption, Option, Some, None, unwrap_or, rules, ℕ, zero, suc, ◌+◌, ◌-◌, ◌*◌, ◌/◌, ◌%◌, ◌^◌, ◌<◌, ◌≤◌, Bool, true, false, cond, List, [], ◌∷◌, ◌++◌, length, get_or, take, drop, set, decimal, sym, refl, ap, ◌∙◌, subst, append_assoc, append-nil, mod-lt, mod-eq_of_lt, mul_comm, div-lt_iff_lt-mul, pow-suc, le-div_iff_mul-le, div-le_self, div-one, arith, length-set}
+use Rattle.std.proofs.Common.{◌≡◌, rules, ℕ, zero, suc, ◌+◌, ◌-◌, ◌*◌, ◌/◌, ◌%◌, ◌^◌, ◌<◌, ◌≤◌, Bool, true, false, cond, List, [], ◌∷◌, ◌++◌, length, get_or, take, drop, set, decimal, sym, refl, ap, ◌∙◌, subst, append_assoc, append-nil, mod-lt, mod-eq_of_lt, mul_comm, div-lt_iff_lt-mul, pow-suc, le-div_iff_mul-le, div-le_self, div-one, arith, length-set}
 use native.Mathlib.Nat.{pow-zero, div-div-eq-div-mul, mod-mod, div-eq_of_lt}
 use lib.Arith.{mod-mul, digits_div, digits_mod}
 use Rattle.std.proofs.lemmas.Fmt.{decimal_digit, decimal_step}
@@ -164,25 +163,19 @@ pub longer_by : (ok : Bool) (was more now : ℕ) → now ≡ cond ok (was + more
 longer_by true was more now e few = omega arith
 longer_by false was more now e few = omega arith
 
--- the place values, highest first
+-- the place values but the last, highest first
 abbrev pub places : List ℕ
-places = 10000000000 ∷ 1000000000 ∷ 100000000 ∷ 10000000 ∷ 1000000 ∷ 100000 ∷ 10000 ∷ 1000 ∷ 100 ∷ 10 ∷ 1 ∷ []
+places = 10000000000 ∷ 1000000000 ∷ 100000000 ∷ 10000000 ∷ 1000000 ∷ 100000 ∷ 10000 ∷ 1000 ∷ 100 ∷ 10 ∷ []
 
-place_at : (i : ℕ) → i < 11 → get_or places i 0 ≡ 10 ^ (10 - i)
+place_at : (i : ℕ) → i < 10 → get_or places i 0 ≡ 10 ^ (10 - i)
 place_at i few = search rules
 
--- the first place value that a number reaches tells its leading zeros
-pub skips_from : (n : ℕ) (r : Option ℕ) (z : ℕ)
-    → MatchOption r (AllWithin (λ y. n < y) places 0 11) (λ i. (i < 11) × HoldsAt (λ y. y ≤ n) places i × AllWithin (λ y. n < y) places 0 i)
-    → z ≡ unwrap_or r 10 → n < 100000000000 → Skips n z
-skips_from n None z found e few =
-    let last : n < 1 = found 10 0 (omega arith) (omega arith) in
-    subst (Skips n) (sym e) (omega arith, omega (arith, last), λ h. absurd (omega (arith, h)))
-skips_from n (Some zero) z found e few =
-    let reached = subst (λ v. v ≤ n) (place_at 0 (omega arith)) (found.1 0) in
-    subst (Skips n) (sym e) (omega arith, few, λ _. reached)
-skips_from n (Some (suc i)) z found e few =
-    let reached = subst (λ v. v ≤ n) (place_at (suc i) found.0) (found.1 0) in
-    let above = subst (λ v. n < v) (place_at i (omega (arith, found.0))) (found.2 i 0 (omega arith) (omega arith)) in
-    let same : 10 - i ≡ 11 - suc i = omega arith in
-    subst (Skips n) (sym e) (omega (arith, found.0), subst (λ m. n < 10 ^ m) same above, λ _. reached)
+-- the last of these that a number does not reach tells its leading zeros
+pub skips_to : (n i z : ℕ) (xs : List ℕ) → xs ≡ places → i < length xs → n < get_or xs i 0 → ((k : ℕ) → i + 1 ≤ k → k < length xs → get_or xs k 0 ≤ n) → z ≡ i + 1 → Skips n z
+skips_to n i z xs is few above below e =
+    let at : (k : ℕ) → k < length xs → get_or xs k 0 ≡ 10 ^ (10 - k) = λ k h. ap (λ ys. get_or ys k 0) is ∙ place_at k (subst (λ ys. k < length ys) is h) in
+    let ten : length xs ≡ 10 = ap length is in
+    let same : 10 - i ≡ 11 - (i + 1) = omega arith in
+    let small : n < 10 ^ (11 - (i + 1)) = subst (λ m. n < 10 ^ m) same (subst (λ v. n < v) (at i few) above) in
+    let reached : i + 1 < 10 → 10 ^ (10 - (i + 1)) ≤ n = λ h. let more : i + 1 < length xs = omega arith in subst (λ v. v ≤ n) (at (i + 1) more) (below (i + 1) (omega arith) more) in
+    subst (Skips n) (sym e) (omega arith, small, reached)

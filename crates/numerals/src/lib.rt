@@ -63,13 +63,16 @@ fn write_digits(digits: &mut [u8; DIGITS], number: u64)
     }
 }
 
-// How many of the eleven digits are leading zeros; the last digit is none.
+// How many of the eleven digits are leading zeros; the last digit is none. Most numbers are small, so the last places come first.
 fn leading_zeros(number: u64) -> usize
     requires { number < BEYOND }
     ensures { Skips number result }
 {
-    let first = PLACES.iter().position(|value| *value <= number);
-    first.unwrap_or(DIGITS - 1)
+    let before_last = &PLACES[..DIGITS - 1];
+    match before_last.iter().rposition(|value| number < *value) {
+        Some(place) => place + 1,
+        None => 0,
+    }
 }
 
 // Appends a number of at most eleven digits. What a push leaves of the output is a fact of before and after, so each of the three says it.

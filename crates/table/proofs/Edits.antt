@@ -1,7 +1,6 @@
 -- What a turn of a part of the list leaves of the whole: xs is the list, of which the first n entries stand.
 use Rattle.std.proofs.Common.{◌≡◌, ℕ, suc, ◌+◌, ◌-◌, ◌<◌, ◌≤◌, List, [], ◌∷◌, ◌++◌, length, get_or, set, take, drop, Some, Err, Ordering, sym, ap, ◌∙◌, append_assoc, add-one, arith}
 use borrow.Rule.Slice.PartMut.{mid_of, put_mid}
-use Rattle.std.specs.Cmp.{IsTotalOrder}
 use Rattle.std.specs.List.{slice_get, insert, remove}
 use Rattle.std.proofs.lemmas.List.{length-take, length-drop, length-append, length-set, take-append-drop, take_at, drop_at, take-take, take-set-le, take_more_set, drop-set-lt, drop-append-le, drop-drop, drop_more, get_or-take}
 use Rattle.std.proofs.lemmas.List.Edits.{length-insert, length-remove}
@@ -99,15 +98,15 @@ module _ {E : Type 0} (xs : List E) (n i : ℕ) (ys : List E) where
         }
 
 -- the list stays in order
-module _ {E K : Type 0} (key : E → K) {compare : K → K → Ordering} (total : IsTotalOrder compare) (limit : ℕ) (xs : List E) (n i : ℕ) (e : E) (xs' : List E) (ordered : Ordered key compare limit n xs) where
+module _ {E K : Type 0} (key : E → K) (compare : K → K → Ordering) (limit : ℕ) (xs : List E) (n i : ℕ) (e : E) (xs' : List E) (ordered : Ordered key compare limit n xs) where
   pub opened_ordered : Opened xs n i e xs' → n < length xs → n < limit → Found key compare (take n xs) (key e) (Err i) → Ordered key compare limit (n + 1) xs'
   opened_ordered after room free found = (
     omega (arith, ap length after.front, length-insert (take n xs) i e found.0, length-take n xs, after.size, room, free),
-    rw after.front (ascending_inserted key compare total (take n xs) i e found.0 ordered.1 found.1.0 found.1.1),
+    rw after.front (ascending_inserted key compare (take n xs) i e found.0 ordered.1 found.1.0 found.1.1),
   )
 
   pub closed_ordered : Closed xs n i e xs' → i < length (take n xs) → Ordered key compare limit (n - 1) xs'
   closed_ordered after at = (
     omega (arith, ap length after.front, length-remove (take n xs) i at, after.size, ordered.0),
-    rw after.front (ascending_removed key compare total (take n xs) i at ordered.1 e),
+    rw after.front (ascending_removed key compare (take n xs) i at ordered.1),
   )

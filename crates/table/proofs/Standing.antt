@@ -18,6 +18,10 @@ use Rattle.table.specs.Keys.{Ascending}
 use Rattle.table.specs.Places.{Found, Known, Stands}
 use Rattle.table.proofs.Ascents.{ascends}
 
+-- an entry that stands at i
+pub nth_at : {E : Type 0} (xs : List E) (i : ℕ) (e : E) → slice_get xs i ≡ Some e → (i < length xs) × (get_or xs i e ≡ e)
+nth_at xs i e at = (slice_get_within xs i e at, get_or_from_slice_get xs i e e at)
+
 -- no key is less than itself
 pub not_less : {K : Type 0} {compare : K → K → Ordering} → IsTotalOrder compare → (k : K) → compare k k ≡ Less → ⊥
 not_less total k less = true≢false (ap is_lt (sym less ∙ tied_itself total k))

@@ -5,6 +5,7 @@ ghost use Rattle.std.specs.Prelude.{◌≡◌, ◌≤◌, length};
 ghost use Rattle.table.specs.Keys.{Exact, Ordered, Ordered-prop};
 
 mod methods;
+mod search;
 
 // What a table holds: plain values, each with a key that it names itself.
 pub trait Entry: Copy {

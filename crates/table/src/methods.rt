@@ -6,6 +6,7 @@ ghost use Rattle.table.specs.Changes.{Allowed, Insertion, Picked, Removal};
 ghost use Rattle.table.specs.Places.{Found, Known};
 ghost use Rattle.table.specs.Tables.{standing, capacity};
 
+use crate::search::bisect;
 use crate::{Entry, Refused, Table};
 
 impl<'a, E: Entry> Table<'a, E> {
@@ -63,8 +64,7 @@ impl<'a, E: Entry> Table<'a, E> {
         ensures place { Found E.Entry.key E.Key.Ord.cmp (standing self.now) key result }
         ensures known { Known E.Entry.key (standing self.now) key result }
     {
-        self.entries()
-            .binary_search_by_key(&key, |entry| entry.key())
+        bisect(self.entries(), key)
     }
 
     // The entry with this key, if one stands.

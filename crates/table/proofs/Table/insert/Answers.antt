@@ -16,7 +16,7 @@ invariant_of-self-in-Err-2 g c =
     let after = opened t.places.now t.count i c.rotate_right.new.self e place.0 room c.rotate_right.ensures.after in
     record {
       counted = omega (arith, after.size, room);
-      ordered = opened_ordered g.E.Entry.key g.met.E.Key.Ord.total t.limit t.places.now t.count i e _ t.ordered after room (omega (arith, free, standing)) (rw (← c.key.ensures) place);
+      ordered = opened_ordered g.E.Entry.key g.E.Key.Ord.cmp t.limit t.places.now t.count i e _ t.ordered after room (omega (arith, free, standing)) (rw (← c.key.ensures) place);
     }
 
 pub returns-in-Err-2-clause-change : goal.returns-in-Err-2-clause-change

@@ -13,7 +13,7 @@ invariant_of-self g c =
     let key = g.E.Entry.key in
     let place = found_place key g.E.Key.Ord.cmp (standing t) c.args.key i c.find.result c.find.ensures.place c.in_ok-place.ensures.value in
     let after = closed t.places.now t.count i c.rotate_left.new.self e place.0 t.counted c.index-self-place.is c.rotate_left.ensures.after in
-    record { counted = omega (arith, after.size, t.counted); ordered = closed_ordered key g.met.E.Key.Ord.total t.limit t.places.now t.count i e _ t.ordered after place.0 }
+    record { counted = omega (arith, after.size, t.counted); ordered = closed_ordered key g.E.Key.Ord.cmp t.limit t.places.now t.count i e _ t.ordered after place.0 }
 
 pub returns : goal.returns
 returns g c =
