@@ -6,7 +6,7 @@
 ghost use Rattle.std.specs.Prelude.{◌≡◌, ◌*◌, ◌&&◌, pos, neg_ℤ, ◌≤ℤ◌, nat_le};
 ghost use Rattle.normal.specs.Normal.{normal};
 
-use anyhow::Context;
+use anyhow::{Context, anyhow};
 use bias::Biased;
 use knowledge::{Knowledge, nearest_offset};
 use normal::Normal;
@@ -61,10 +61,13 @@ fn main(rt: HostRuntime) -> anyhow::Result<()> {
     let mut outside = 0u64;
     let mut different = 0u64;
     for line in BufReader::new(rt.alloc(), rt.stdin())?.lines(rt.alloc()) {
-        let row = line?.parse::<Row>().context("a line is not four numbers")?;
-        let kind = Normal::new(row.standard_uncertainty).context(
-            "a standard uncertainty is out of range",
-        )?;
+        // The message alone, without its cause: what the program writes on standard error is one line.
+        let Ok(row) = line?.parse::<Row>() else {
+            return Err(anyhow!("a line is not four numbers"));
+        };
+        let Ok(kind) = Normal::new(row.standard_uncertainty) else {
+            return Err(anyhow!("a standard uncertainty is out of range"));
+        };
         let (floor, ceiling) = kind.at_most(row.offset);
         if !brackets(floor, ceiling, &row) {
             outside = outside.saturating_add(1);

@@ -3,14 +3,15 @@
 #![tactic(auto)]
 
 use report::report;
+use std::io;
 use std::io::{BufRead, BufReader, Write};
-use trials::with_commas;
+use trials::{decoded, with_commas};
 
-fn main(rt: HostRuntime) -> anyhow::Result<()> {
+fn main(rt: HostRuntime) -> io::Result<()> {
     let heap = rt.alloc();
     for line in BufReader::new(heap, rt.stdin())?.lines(heap) {
         let line = line?;
-        let case = hex::decode(heap, line.as_bytes())?;
+        let case = decoded(heap, line.as_bytes())?;
         let text = with_commas(heap, case.as_slice())?;
         let output = report(heap, text.as_slice())?;
         rt.stdout().write_all(output.as_slice())?;

@@ -12,7 +12,7 @@ use judging::{Bracket, Judgement};
 use normal::Normal;
 use rectangular::Rectangular;
 use requirement::RequirementRow;
-pub use stops::Stop;
+pub use stops::{Stop, told};
 
 // The grade of a haul road in hundredths of a percent, from level to 10 %, with 2.5 % of risk on either side.
 const GRADE: RequirementRow = RequirementRow {

@@ -4,26 +4,31 @@
 #![tactic(auto)]
 
 use show::{Records, Values};
-use std::alloc::Global;
+use std::alloc::{AllocError, Global};
+use std::io;
 use std::io::{BufRead, BufReader};
-use trials::with_commas;
+use trials::{decoded, with_commas};
 
 mod show;
 
-fn answer(rt: &impl Print, heap: Global, case: &[u8]) -> anyhow::Result<()> {
-    match case {
-        [b't', digits @ ..] => rt.println(Records(hex::decode(heap, digits)?.as_slice()))?,
-        [b'v', digits @ ..] => rt.println(Values(hex::decode(heap, digits)?.as_slice()))?,
-        [b'n', digits @ ..] => {
-            let count = hex::decode(heap, digits)?;
-            rt.println(Records(with_commas(heap, count.as_slice())?.as_slice()))?;
-        }
-        _ => rt.println("no case")?,
-    }
-    Ok(())
+// As many commas as three bytes say, and none where there are not three.
+fn commas(heap: Global, count: &[u8]) -> Result<Vec<u8>, AllocError> {
+    with_commas(heap, if count.len() == 3 { count } else { &[] })
 }
 
-fn main(rt: HostRuntime) -> anyhow::Result<()> {
+fn answer(rt: &impl Print, heap: Global, case: &[u8]) -> io::Result<()> {
+    match case {
+        [b't', digits @ ..] => rt.println(Records(decoded(heap, digits)?.as_slice())),
+        [b'v', digits @ ..] => rt.println(Values(decoded(heap, digits)?.as_slice())),
+        [b'n', digits @ ..] => {
+            let count = decoded(heap, digits)?;
+            rt.println(Records(commas(heap, count.as_slice())?.as_slice()))
+        }
+        _ => rt.println("no case"),
+    }
+}
+
+fn main(rt: HostRuntime) -> io::Result<()> {
     let heap = rt.alloc();
     for line in BufReader::new(heap, rt.stdin())?.lines(heap) {
         answer(&rt, heap, line?.as_bytes())?;

@@ -7,6 +7,11 @@ use trials::{Answer, Limit, Numbers};
 // How many places the list of fields has: fewer than some records have fields.
 const PLACES: usize = 3;
 
+// The hexadecimal digits.
+const DIGITS: [&str; 16] = [
+    "0", "1", "2", "3", "4", "5", "6", "7", "8", "9", "a", "b", "c", "d", "e", "f",
+];
+
 // A field: its kind, its place and its bytes in hexadecimal.
 #[derive(Clone, Copy)]
 struct Shown<'a>(Placed<'a>);
@@ -23,8 +28,10 @@ impl fmt::Display for Shown<'_> {
             Field::Quoted(_) => 'q',
         };
         write!(f, "{kind}{record}.{field}:")?;
+        // By a table: over a text with long fields `{byte:02x}` takes three quarters more instructions.
         for byte in content.bytes() {
-            write!(f, "{byte:02x}")?;
+            f.write_str(DIGITS[usize::from(byte / 16)])?;
+            f.write_str(DIGITS[usize::from(byte % 16)])?;
         }
         Ok(())
     }

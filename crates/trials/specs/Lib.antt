@@ -1,3 +1,4 @@
+pub mod Hexadecimal
 pub mod Refused
 pub mod Shown
 pub mod Texts

@@ -1,13 +1,15 @@
-// What the programs and tests share that try the engine: how they write limits and faults, the number of a refusal, and long texts.
+// What the programs and tests share that try the engine: how they write limits and faults, the number of a refusal, bytes in hexadecimal, and long texts.
 #![tactic(auto)]
 
 ghost use Rattle.std.specs.Prelude.{◌≡◌, IfOk};
 ghost use Rattle.trials.specs.Texts.{with_commas};
 ghost use Rattle.trials.specs.Refused.{number_of};
 
+mod hexadecimal;
 mod shown;
 
 use faults::Fault;
+pub use hexadecimal::decoded;
 pub use shown::{Answer, Limit, Numbers};
 use std::alloc::{AllocError, Global};
 
@@ -43,6 +45,14 @@ mod tests {
         assert!(rt; text.as_slice() == b"ab,,".as_slice());
         let none = with_commas(rt.alloc(), b"\x00\x00")?;
         assert!(rt; none.is_empty());
+        Ok(())
+    }
+
+    // A capital and any other byte count as 0, and a digit left over spells no byte.
+    #[test]
+    fn digits_spell_bytes(rt: HostRuntime) -> Result<(), Fail> {
+        let bytes = decoded(rt.alloc(), b"00ff4azz4A7")?;
+        assert!(rt; bytes.as_slice() == b"\x00\xff\x4a\x00\x40".as_slice());
         Ok(())
     }
 }

@@ -4,10 +4,13 @@
 mod lots;
 
 use lots::enter_and_strike;
-use steps::show_steps;
+use steps::{Stop, show_steps, told};
 
-fn main(rt: HostRuntime) -> anyhow::Result<()> {
-    show_steps(&rt)?;
-    enter_and_strike(&rt)?;
-    Ok(())
+fn run(rt: &impl Print) -> Result<(), Stop> {
+    show_steps(rt)?;
+    enter_and_strike(rt)
+}
+
+fn main(rt: HostRuntime) -> Result<(), Stop> {
+    told(&rt.stderr(), run(&rt))
 }
