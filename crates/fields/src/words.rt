@@ -1,13 +1,15 @@
 // Words.
-ghost use Rattle.std.specs.Prelude.{◌≡◌, [], ◌∷◌, Decides, MatchOption};
+ghost use Rattle.std.specs.Prelude.{◌≡◌, ℕ, [], ◌∷◌, drop, Decides, MatchOption, IfSome};
 ghost use Rattle.text.specs.Content.{singled};
 ghost use Rattle.fields.specs.Answers.{said};
+ghost use Rattle.fields.specs.Spoken.{SaysOne};
 
 use text::{Field, Placed};
 
-// The byte that bytes between quotes say first, and what stands after it. A quote that stands twice says one.
+// The byte that bytes between quotes say first, and what stands after it, which is the rest of these bytes. A quote that stands twice says one.
 fn first_said<'a>(bytes: &'a [u8]) -> Option<(u8, &'a [u8])>
-    ensures { MatchOption result (bytes.now ≡ []) (λ s. singled bytes.now ≡ s.0 ∷ singled s.1.now) }
+    ensures said { MatchOption result (bytes.now ≡ []) (λ s. singled bytes.now ≡ s.0 ∷ singled s.1.now) }
+    ensures rest { IfSome result (λ s. (n : ℕ) × SaysOne bytes.now 0 n × (s.1.now ≡ drop n bytes.now)) }
 {
     match bytes {
         [b'"', b'"', rest @ ..] => Some((b'"', rest)),

@@ -4,7 +4,7 @@ use Rattle.std.proofs.lemmas.Bool.{true≢false}
 use Rattle.faults.specs.declared.Refusal.TheVariants.{OutOfRange, NoOffset, NothingAcceptable}
 use Rattle.faults.specs.declared.Fault.{Fault}
 use Rattle.faults.specs.Faults.{check, AnswersBy}
-use Rattle.faults.proofs.Checks.{check_passed, first_none, later_none, no_refusal, its_value, refused_alike, answered_alike, passes_first}
+use Rattle.faults.proofs.Checks.{check_passed, first_none, later_none, no_refusal, its_value, refused_alike, answered_alike, refuses_first, passes_first}
 use Rattle.knowledge.specs.Knowledge.{Answers, Rules}
 use Rattle.requirement.specs.Limits.{in_reach}
 use Rattle.requirement.specs.declared.rules.Rule.{Rule}
@@ -58,6 +58,10 @@ module _ (k : Answers) (r : Rules k) (q : Requirement) (expanded y : ℤ) where
 
     after_bracket : (x : Result Judgement Fault) → AnswersBy (limits_refusal q expanded k) x Judged → Answer x
     after_bracket x a = passes_first Judged (reading_refusal y) (limits_refusal q expanded k) x reading_passed a
+
+    -- a width that is refused refuses the judgement alike
+    pub by_width : {T : Type 0} (P : T → Type 0) (f : Fault) → AnswersBy (width_refusal expanded) (Err f) P → Answer (Err f)
+    by_width P f a = after_bracket (Err f) (refuses_first P Judged (width_refusal expanded) (acceptance_refusal (acceptance q expanded k)) f a)
 
     pub by_limits : (f : Fault) → AnswersBy (limits_refusal q expanded k) (Err f) Accepted → Answer (Err f)
     by_limits f a = after_bracket (Err f) (refused_alike Accepted Judged (limits_refusal q expanded k) f a)

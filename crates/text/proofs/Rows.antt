@@ -78,7 +78,7 @@ begins_once fs gs after beyond bs h k =
     (same.0, same_next x.tail y.tail after beyond same.1 x.next y.next)
 
 -- fields that stand before an offence, each with its comma
-flat_lead : (f : Form) (fs : List Form) (w : List ℕ) → flat_map before_comma (f ∷ fs) ++ w ≡ spelling f ++ COMMA ∷ (flat_map before_comma fs ++ w)
+pub flat_lead : (f : Form) (fs : List Form) (w : List ℕ) → flat_map before_comma (f ∷ fs) ++ w ≡ spelling f ++ COMMA ∷ (flat_map before_comma fs ++ w)
 flat_lead f fs w = append_assoc (before_comma f) (flat_map before_comma fs) w ∙ append_assoc (spelling f) (COMMA ∷ []) (flat_map before_comma fs ++ w)
 
 lead_once : (fs gs : List Form) (w v : List ℕ) (e d : Refusal) → AllByRecursion IsField fs → AllByRecursion IsField gs → flat_map before_comma fs ++ w ≡ flat_map before_comma gs ++ v → Offence e w → Offence d v → (e ≡ d) × (length fs ≡ length gs)
