@@ -1,7 +1,8 @@
 -- The first field of a record and the number of its fields.
 use Rattle.std.proofs.Common.{◌≡◌, ℕ, ◌<◌, Bool, true, false, ◌&&◌, List, [], ◌∷◌, length, get_or, ◌≢◌, Decides, sym, refl, ap, ◌∙◌, subst, arith}
 use lib.ListN.{length-map}
-use Rattle.std.specs.Array.{IsWholeChunk}
+use Rattle.std.specs.Array.{IsWholeChunk, IsFirstChunk}
+use Rattle.std.proofs.lemmas.List.{take_all}
 use Rattle.std.specs.Str.{bytes_eq}
 use Rattle.std.proofs.lemmas.Slice.Eq.{bytes_eq-Decides}
 use Rattle.std.proofs.Math.Bool.{and-true}
@@ -29,6 +30,10 @@ word_decides (p ∷ ps) qs word count b some whole d =
     let same = agree b (bytes_eq (said p) word) (said p ≡ word) (subst (λ w. Decides b (w ≡ word)) first d) (bytes_eq-Decides (said p) word) in
     let many = eq-eqb _ count (how_many (p ∷ ps) ∙ whole.long) in
     same ∙ sym (ap (λ t. bytes_eq (said p) word && t) many ∙ and-true (bytes_eq (said p) word))
+
+-- the first of them are all, where they are no more
+pub whole_from_first : (ps qs : List Placed) (count : ℕ) → length ps ≡ count → IsFirstChunk ps qs count → IsWholeChunk ps qs count
+whole_from_first ps qs count long first = record { long = long; same = first.same ∙ take_all count ps (omega (arith, long)); each = first.each }
 
 -- and where they are not as many
 pub not_so_many : (ps : List Placed) (word : List ℕ) (count : ℕ) → length ps ≢ count → false ≡ is_record word count (contents (cells ps))

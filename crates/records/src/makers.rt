@@ -1,5 +1,5 @@
 // The records by their words: a requirement or an item.
-ghost use Rattle.std.specs.Prelude.{◌≡◌, true, false, IfOk};
+ghost use Rattle.std.specs.Prelude.{◌≡◌, length, true, false, Decides, IfOk};
 ghost use Rattle.fields.specs.Values.{number_of};
 ghost use Rattle.kinds.specs.Kinds.{known_kind, letter_of, spread_of};
 ghost use Rattle.records.specs.Columns.{spread_in};
@@ -80,16 +80,25 @@ fn item(fields: &[Placed<'_>; 8]) -> Result<ItemRow, Fault>
     })
 }
 
+// Whether a record has so many fields, and no more.
+fn has_count(fields: &[Placed<'_>], count: usize) -> bool
+    ensures { Decides result (length fields.now ≡ count) }
+{
+    fields.len() == count
+}
+
 // The record of these fields, as record `number` of the text.
 pub fn entry(number: u32, fields: &[Placed<'_>]) -> Result<Entry, Fault>
     ensures { answer_meant entry_meant result ≡ answer_of number (cells fields.now) }
 {
-    if let Some(fields) = fields.as_array::<9>()
+    if has_count(fields, 9)
+        && let Some(fields) = fields.first_chunk::<9>()
         && says(fields[0], b"REQ")
     {
         return Ok(Entry::Requirement(requirement(fields)?));
     }
-    if let Some(fields) = fields.as_array::<8>()
+    if has_count(fields, 8)
+        && let Some(fields) = fields.first_chunk::<8>()
         && says(fields[0], b"ITEM")
     {
         return Ok(Entry::Item(item(fields)?));
